@@ -1,0 +1,24 @@
+-- Rows of tests: a `|` of tests that failed, and a ladder of refusals that did not refuse. Cited wherever a judge's answer is taken apart.
+-- Assumes nothing.
+use mathlib.Core.Path.{_≡_, refl}
+use mathlib.Core.Bool.{Bool, true, false, cond, _||_}
+use Prim.Native.Nat.{ℕ}
+use native.Mathlib.Omega.{arith}
+
+-- the two truth values differ, so anything follows where they are said to be equal
+pub never : {A : Type 0} → true ≡ false → A
+never h = let z : _≡_ {A = ℕ} 0 1 = cc in absurd (omega arith)
+
+-- a `|` failed: each side failed
+pub or-left : (a b : Bool) → a || b ≡ false → a ≡ false
+or-left true b h = h
+or-left false b h = refl
+
+pub or-right : (a b : Bool) → a || b ≡ false → b ≡ false
+or-right true b h = never h
+or-right false b h = h
+
+-- a ladder gave b, and its first rung would have given another answer: the first test failed, and the rest gave b
+pub ladder : {A : Type 0} (t : Bool) {a r b : A} → (a ≡ b → ⊥) → cond t a r ≡ b → (t ≡ false) × (r ≡ b)
+ladder true other h = absurd (other h)
+ladder false other h = (refl, h)

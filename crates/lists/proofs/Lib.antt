@@ -1,0 +1,7 @@
+pub mod TabLaws
+pub mod FirstLaws
+pub mod AnyLaws
+pub mod TurnLaws
+pub mod OverLaws
+pub mod BoolLaws
+pub mod Sure
