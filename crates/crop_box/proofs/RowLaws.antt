@@ -31,53 +31,59 @@ past false here other h = other h
 
 module _ (a b c d e : Bool) where
   pub row-0 : Exactly (firstRow a b c d e ≡ 0) ((a ≡ false) × (b ≡ false) × (c ≡ false) × (d ≡ false) × (e ≡ false))
-  row-0 =
-      (λ h.
+  row-0 = (
+    λ h.
         let one = ladder a (λ z. omega arith) h in
         let two = ladder b (λ z. omega arith) (one .1) in
         let three = ladder c (λ z. omega arith) (two .1) in
         let four = ladder d (λ z. omega arith) (three .1) in
         (one .0, two .0, three .0, four .0, ladder e (λ z. omega arith) (four .1) .0),
-      λ h. rw (h .0, h .1, h .2, h .3, h .4))
+    λ h. rw (h .0, h .1, h .2, h .3, h .4),
+  )
 
   pub row-1 : Exactly (firstRow a b c d e ≡ 1) (a ≡ true)
-  row-1 =
-      (holds a (past b (λ z. omega arith) (past c (λ z. omega arith) (past d (λ z. omega arith) (past e (λ z. omega arith) (λ z. omega arith))))),
-      λ h. rw h)
+  row-1 = (
+    holds a (past b (λ z. omega arith) (past c (λ z. omega arith) (past d (λ z. omega arith) (past e (λ z. omega arith) (λ z. omega arith))))),
+    λ h. rw h,
+  )
 
   pub row-2 : Exactly (firstRow a b c d e ≡ 2) ((a ≡ false) × (b ≡ true))
-  row-2 =
-      (λ h.
+  row-2 = (
+    λ h.
         let one = ladder a (λ z. omega arith) h in
         (one .0, holds b (past c (λ z. omega arith) (past d (λ z. omega arith) (past e (λ z. omega arith) (λ z. omega arith)))) (one .1)),
-      λ h. rw (h .0, h .1))
+    λ h. rw (h .0, h .1),
+  )
 
   pub row-3 : Exactly (firstRow a b c d e ≡ 3) ((a ≡ false) × (b ≡ false) × (c ≡ true))
-  row-3 =
-      (λ h.
+  row-3 = (
+    λ h.
         let one = ladder a (λ z. omega arith) h in
         let two = ladder b (λ z. omega arith) (one .1) in
         (one .0, two .0, holds c (past d (λ z. omega arith) (past e (λ z. omega arith) (λ z. omega arith))) (two .1)),
-      λ h. rw (h .0, h .1, h .2))
+    λ h. rw (h .0, h .1, h .2),
+  )
 
   pub row-4 : Exactly (firstRow a b c d e ≡ 4) ((a ≡ false) × (b ≡ false) × (c ≡ false) × (d ≡ true))
-  row-4 =
-      (λ h.
+  row-4 = (
+    λ h.
         let one = ladder a (λ z. omega arith) h in
         let two = ladder b (λ z. omega arith) (one .1) in
         let three = ladder c (λ z. omega arith) (two .1) in
         (one .0, two .0, three .0, holds d (past e (λ z. omega arith) (λ z. omega arith)) (three .1)),
-      λ h. rw (h .0, h .1, h .2, h .3))
+    λ h. rw (h .0, h .1, h .2, h .3),
+  )
 
   pub row-5 : Exactly (firstRow a b c d e ≡ 5) ((a ≡ false) × (b ≡ false) × (c ≡ false) × (d ≡ false) × (e ≡ true))
-  row-5 =
-      (λ h.
+  row-5 = (
+    λ h.
         let one = ladder a (λ z. omega arith) h in
         let two = ladder b (λ z. omega arith) (one .1) in
         let three = ladder c (λ z. omega arith) (two .1) in
         let four = ladder d (λ z. omega arith) (three .1) in
         (one .0, two .0, three .0, four .0, holds e (λ z. omega arith) (four .1)),
-      λ h. rw (h .0, h .1, h .2, h .3, h .4))
+    λ h. rw (h .0, h .1, h .2, h .3, h .4),
+  )
 
 -- the crop's number is that of the first row that holds
 pub numbered :

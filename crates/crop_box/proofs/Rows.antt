@@ -4,8 +4,7 @@
 use mathlib.Core.Path.{_≡_, refl}
 use mathlib.Core.Bool.{true, false}
 use Prim.Native.Nat.{ℕ}
-use lib.Ieee.{binary64, div}
-use Rattle.crop_box.specs.Doubles.{double}
+use Rattle.floats.specs.Doubles.{double, _over_}
 use Rattle.crop_box.specs.Crop.{badSides, notFinite, negativeExtent, startOutside, endOutside, cropOf, numberOf}
 use Rattle.crop_box.specs.Fit.{largeSides, badCentring, zeroSide, sourceBox, ratioBox, acrossOf, downOf, fitOf, numberOf as fitNumberOf}
 use Rattle.crop_box.specs.declared.CropBox.{CropBox}
@@ -47,7 +46,7 @@ module _ (sw sh dw dh : ℕ) (at : Centring) where
   unfolding fitOf
   fit-is =
       fit-numbered (largeSides sw sh dw dh) (badCentring at) (zeroSide sw sh dw dh) (sourceBox sw sh)
-      (ratioBox (double sw) (double sh) (div binary64 (double dw) (double dh)) (acrossOf at) (downOf at))
+      (ratioBox (double sw) (double sh) (double dw over double dh) (acrossOf at) (downOf at))
 
   pub fit-1 : Exactly (fitNumberOf (fitOf sw sh dw dh at) ≡ 1) (largeSides sw sh dw dh ≡ true)
   fit-1 = rw fit-is (row-1 (largeSides sw sh dw dh) (badCentring at) false false false)

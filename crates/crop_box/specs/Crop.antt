@@ -4,10 +4,10 @@
 use mathlib.Core.Bool.{Bool, not, _||_, _&&_, cond}
 use Prim.Native.Nat.{ℕ}
 use lib.Dec.{ltb}
-use lib.Ieee.{binary64, lt, le, add}
+use lib.Ieee.{lt, le}
 use Rattle.refusal.specs.Refusal.{numberOf as numberOfRefusal}
 use Rattle.refusal.specs.declared.Refusal.the-variants.{BadSide, NotFinite, NegativeExtent, StartOutside, EndOutside}
-use Rattle.crop_box.specs.Doubles.{isFinite, zero64, double}
+use Rattle.floats.specs.Doubles.{isFinite, zero64, double, _plus_}
 use Rattle.crop_box.specs.declared.CropBox.{CropBox}
 use Rattle.crop_box.specs.declared.Cropped.{Cropped}
 use Rattle.crop_box.specs.declared.Cropped.the-variants.{Inside, Refused}
@@ -30,7 +30,7 @@ startOutside w h b = ((lt (b .left) zero64 || le (double w) (b .left)) || lt (b 
 
 -- No. 5: left + width, or top + height, past the image side; each sum is rounded once
 abbrev pub endOutside : ℕ → ℕ → CropBox → Bool
-endOutside w h b = lt (double w) (add binary64 (b .left) (b .width)) || lt (double h) (add binary64 (b .top) (b .height))
+endOutside w h b = lt (double w) (b .left plus b .width) || lt (double h) (b .top plus b .height)
 
 -- the box as it is, or the smallest number that holds
 unfoldable pub cropOf : ℕ → ℕ → CropBox → Cropped

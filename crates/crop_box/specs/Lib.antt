@@ -1,3 +1,2 @@
-pub mod Doubles
 pub mod Crop
 pub mod Fit

@@ -1,7 +1,9 @@
 // The checks of `crop`: a function for each row of document 01's table, in its order.
 ghost use mathlib.Core.Path.{_≡_};
 ghost use Rattle.crop_box.specs.Crop.{cropOf, badSides, notFinite, negativeExtent, startOutside, endOutside};
-use crate::{finite, CropBox, Cropped};
+use crate::CropBox;
+use crate::Cropped;
+use crate::finite;
 use refusal::Refusal;
 
 // No. 1: a side outside 1 to 8,192.

@@ -1,9 +1,16 @@
 // Fitting, operation by operation as in crop_box.rs of the Rust.
 ghost use mathlib.Core.Path.{_≡_};
-ghost use Rattle.crop_box.specs.Doubles.{sizeOf, clamped};
-ghost use Rattle.crop_box.specs.Fit.{fitOf, largeSides, badCentring, zeroSide, sourceBox, acrossOf, downOf, placedBox, ratioBox};
-use crate::{finite, Centring, CropBox, Fitted};
+ghost use Rattle.crop_box.specs.Fit.{fitOf, largeSides, zeroSide, placedBox, ratioBox};
+use crate::Centring;
+use crate::CropBox;
+use crate::Fitted;
+use crate::bad_centring;
+use crate::centre_across;
+use crate::centre_down;
 use refusal::Refusal;
+
+// 2^-52, the step from 1 to the next double.
+const EPSILON: f64 = 2.220446049250313e-16;
 
 // No. 1: a side above 8,192. A side of 0 is no refusal here.
 fn large_sides(src_width: u32, src_height: u32, dst_width: u32, dst_height: u32) -> bool
@@ -12,68 +19,30 @@ fn large_sides(src_width: u32, src_height: u32, dst_width: u32, dst_height: u32)
     (8192 < src_width) | (8192 < src_height) | (8192 < dst_width) | (8192 < dst_height)
 }
 
-// No. 2: a centring number that is NaN or infinite.
-fn bad_centring(centring: Centring) -> bool
-    ensures answer { λ r. ⌜ r ≡ badCentring centring ⌝ }
-{
-    match centring {
-        Centring::Absent => false,
-        Centring::At(across, down) => !(finite(across) & finite(down)),
-    }
-}
-
+// Any side is 0.
 fn zero_side(src_width: u32, src_height: u32, dst_width: u32, dst_height: u32) -> bool
     ensures answer { λ r. ⌜ r ≡ zeroSide «src_width» «src_height» «dst_width» «dst_height» ⌝ }
 {
     (src_width == 0) | (src_height == 0) | (dst_width == 0) | (dst_height == 0)
 }
 
-// x clamped to 0..1; minus zero stays as it is.
-fn clamp01(x: f64) -> f64
-    ensures answer { λ r. ⌜ r ≡ clamped x ⌝ }
-{
-    if x < 0.0 {
-        return 0.0;
-    }
-    if 1.0 < x {
-        return 1.0;
-    }
-    x
-}
-
-fn centre_across(centring: Centring) -> f64
-    ensures answer { λ r. ⌜ r ≡ acrossOf centring ⌝ }
-{
-    match centring {
-        Centring::Absent => 0.5,
-        Centring::At(across, _) => clamp01(across),
-    }
-}
-
-fn centre_down(centring: Centring) -> f64
-    ensures answer { λ r. ⌜ r ≡ downOf centring ⌝ }
-{
-    match centring {
-        Centring::Absent => 0.5,
-        Centring::At(_, down) => clamp01(down),
-    }
-}
-
-// The size of x: x with its sign turned where it is below 0.
-fn size(x: f64) -> f64
-    ensures answer { λ r. ⌜ r ≡ sizeOf x ⌝ }
-{
-    if x < 0.0 {
-        return -x;
-    }
-    x
-}
-
 // A box of the given extent in a source of the given sides.
-fn placed(width: f64, height: f64, crop_width: f64, crop_height: f64, across: f64, down: f64) -> CropBox
+fn placed(
+    width: f64,
+    height: f64,
+    crop_width: f64,
+    crop_height: f64,
+    across: f64,
+    down: f64,
+) -> CropBox
     ensures answer { λ r. ⌜ r ≡ placedBox width height «crop_width» «crop_height» across down ⌝ }
 {
-    CropBox { left: (width - crop_width) * across, top: (height - crop_height) * down, width: crop_width, height: crop_height }
+    CropBox {
+        left: (width - crop_width) * across,
+        top: (height - crop_height) * down,
+        width: crop_width,
+        height: crop_height,
+    }
 }
 
 // The box with the ratio that is required: the source itself where its ratio is within 2^-52, else its sides or its top and bottom cut.
@@ -81,7 +50,7 @@ fn ratio_box(width: f64, height: f64, required: f64, across: f64, down: f64) -> 
     ensures answer { λ r. ⌜ r ≡ ratioBox width height required across down ⌝ }
 {
     let ratio = width / height;
-    if size(ratio - required) < 2.220446049250313e-16 {
+    if numbers::abs(ratio - required) < EPSILON {
         return placed(width, height, width, height, across, down);
     }
     if ratio >= required {
@@ -91,7 +60,13 @@ fn ratio_box(width: f64, height: f64, required: f64, across: f64, down: f64) -> 
 }
 
 // The box of the display's ratio of sides; the source's sides where any side is 0; or the first refusal that applies.
-pub fn fit_src_into_dst_size(src_width: u32, src_height: u32, dst_width: u32, dst_height: u32, centring: Centring) -> Fitted
+pub fn fit_src_into_dst_size(
+    src_width: u32,
+    src_height: u32,
+    dst_width: u32,
+    dst_height: u32,
+    centring: Centring,
+) -> Fitted
     ensures answer { λ r. ⌜ r ≡ fitOf «src_width» «src_height» «dst_width» «dst_height» centring ⌝ }
 {
     if large_sides(src_width, src_height, dst_width, dst_height) {
@@ -103,8 +78,19 @@ pub fn fit_src_into_dst_size(src_width: u32, src_height: u32, dst_width: u32, ds
     let width = src_width as f64;
     let height = src_height as f64;
     if zero_side(src_width, src_height, dst_width, dst_height) {
-        return Fitted::Fit(CropBox { left: 0.0, top: 0.0, width: width, height: height });
+        return Fitted::Fit(CropBox {
+            left: 0.0,
+            top: 0.0,
+            width: width,
+            height: height,
+        });
     }
     let required = dst_width as f64 / dst_height as f64;
-    Fitted::Fit(ratio_box(width, height, required, centre_across(centring), centre_down(centring)))
+    Fitted::Fit(ratio_box(
+        width,
+        height,
+        required,
+        centre_across(centring),
+        centre_down(centring),
+    ))
 }

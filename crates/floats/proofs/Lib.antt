@@ -7,3 +7,4 @@ pub mod Monotone
 pub mod Pattern
 pub mod Digits
 pub mod Codes
+pub mod Doubles

@@ -1,43 +1,30 @@
+-- `crop` meets its contract. Each return knows the tests that failed before it and the one that held: the ladder of `cropOf`, rewritten by them,
+-- is the answer. Assumes nothing.
 use borrow.Author.Needs.{needs}
 use Rattle.crop_box.proofs.checks.crop.Statement.{statement}
 use Rattle.crop_box.proofs.checks.crop.Tie as tie
-use Rattle.crop_box.proofs.checks.crop.Reads as reads
-use Rattle.crop_box.proofs.checks.crop.Lts as lts
-use Rattle.crop_box.proofs.checks.bad_sides.Reads as bad-sides-reads
-use Rattle.crop_box.proofs.checks.end_outside.Reads as end-outside-reads
-use Rattle.crop_box.proofs.checks.negative_extent.Reads as negative-extent-reads
-use Rattle.crop_box.proofs.checks.not_finite.Reads as not-finite-reads
-use Rattle.crop_box.proofs.checks.start_outside.Reads as start-outside-reads
 use mathlib.Core.Path.{_∙_, sym}
 use Rattle.crop_box.specs.Crop.{cropOf}
-use native.Mathlib.Omega.{arith}
 
-
--- src/checks.rt:46:8
 bad-sides-requires : tie.Need-bad-sides-requires
 bad-sides-requires c κs = search needs
 
--- src/checks.rt:47:9
 returns : tie.Need-returns
 unfolding cropOf
 returns c = rw (sym (c .before .bad-sides .ensures) ∙ c .if1 .taken)
 
--- src/checks.rt:49:8
 not-finite-requires : tie.Need-not-finite-requires
 not-finite-requires c κs = search needs
 
--- src/checks.rt:50:9
 returns-2 : tie.Need-returns-2
 unfolding cropOf
 returns-2 c =
     let one = c .before .before in
     rw (sym (one .before .bad-sides .ensures) ∙ one .if1 .left, sym (c .before .not-finite .ensures) ∙ c .if2 .taken)
 
--- src/checks.rt:52:8
 negative-extent-requires : tie.Need-negative-extent-requires
 negative-extent-requires c κs = search needs
 
--- src/checks.rt:53:9
 returns-3 : tie.Need-returns-3
 unfolding cropOf
 returns-3 c =
@@ -49,11 +36,9 @@ returns-3 c =
       sym (c .before .negative-extent .ensures) ∙ c .if3 .taken,
     )
 
--- src/checks.rt:55:8
 start-outside-requires : tie.Need-start-outside-requires
 start-outside-requires c κs = search needs
 
--- src/checks.rt:56:9
 returns-4 : tie.Need-returns-4
 unfolding cropOf
 returns-4 c =
@@ -67,11 +52,9 @@ returns-4 c =
       sym (c .before .start-outside .ensures) ∙ c .if4 .taken,
     )
 
--- src/checks.rt:58:8
 end-outside-requires : tie.Need-end-outside-requires
 end-outside-requires c κs = search needs
 
--- src/checks.rt:59:9
 returns-5 : tie.Need-returns-5
 unfolding cropOf
 returns-5 c =
@@ -87,7 +70,6 @@ returns-5 c =
       sym (c .before .end-outside .ensures) ∙ c .if5 .taken,
     )
 
--- src/checks.rt:43:1
 returns-6 : tie.Need-returns-6
 unfolding cropOf
 returns-6 c =

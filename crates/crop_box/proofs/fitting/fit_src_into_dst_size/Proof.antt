@@ -1,53 +1,37 @@
+-- `fit_src_into_dst_size` meets its contract. As for `crop`, the ladder of `fitOf` is rewritten by the tests that led to each return;
+-- the last is the box that `ratio_box` gave. Assumes nothing.
 use borrow.Author.Needs.{needs}
 use Rattle.crop_box.proofs.fitting.fit_src_into_dst_size.Statement.{statement}
 use Rattle.crop_box.proofs.fitting.fit_src_into_dst_size.Tie as tie
-use Rattle.crop_box.proofs.fitting.fit_src_into_dst_size.Reads as reads
-use Rattle.crop_box.proofs.fitting.fit_src_into_dst_size.Lts as lts
-use Rattle.crop_box.proofs.fitting.bad_centring.Reads as bad-centring-reads
-use Rattle.crop_box.proofs.fitting.centre_across.Reads as centre-across-reads
-use Rattle.crop_box.proofs.fitting.centre_down.Reads as centre-down-reads
-use Rattle.crop_box.proofs.fitting.large_sides.Reads as large-sides-reads
-use Rattle.crop_box.proofs.fitting.ratio_box.Reads as ratio-box-reads
-use Rattle.crop_box.proofs.fitting.zero_side.Reads as zero-side-reads
 use mathlib.Core.Path.{_∙_, sym, ap}
 use Rattle.crop_box.specs.Fit.{fitOf}
 use Rattle.crop_box.specs.declared.Fitted.the-variants.{Fit}
-use native.Mathlib.Omega.{arith}
 
-
--- src/fitting.rt:97:8
 large-sides-requires : tie.Need-large-sides-requires
 large-sides-requires c κs = search needs
 
--- src/fitting.rt:98:9
 returns : tie.Need-returns
 unfolding fitOf
 returns c = rw (sym (c .before .large-sides .ensures) ∙ c .if1 .taken)
 
--- src/fitting.rt:100:8
 bad-centring-requires : tie.Need-bad-centring-requires
 bad-centring-requires c κs = search needs
 
--- src/fitting.rt:101:9
 returns-2 : tie.Need-returns-2
 unfolding fitOf
 returns-2 c =
     let one = c .before .before in
     rw (sym (one .before .large-sides .ensures) ∙ one .if1 .left, sym (c .before .bad-centring .ensures) ∙ c .if2 .taken)
 
--- src/fitting.rt:103:17
 int-to-float-width : tie.Need-int-to-float-width
 int-to-float-width c = search needs
 
--- src/fitting.rt:104:18
 int-to-float-height : tie.Need-int-to-float-height
 int-to-float-height c = search needs
 
--- src/fitting.rt:105:8
 zero-side-requires : tie.Need-zero-side-requires
 zero-side-requires c κs = search needs
 
--- src/fitting.rt:106:9
 returns-3 : tie.Need-returns-3
 unfolding fitOf
 returns-3 c =
@@ -59,27 +43,21 @@ returns-3 c =
       sym (c .before .zero-side .ensures) ∙ c .if3 .taken,
     )
 
--- src/fitting.rt:108:20
 int-to-float-required : tie.Need-int-to-float-required
 int-to-float-required c = search needs
 
--- src/fitting.rt:108:39
 int-to-float-required-2 : tie.Need-int-to-float-required-2
 int-to-float-required-2 c = search needs
 
--- src/fitting.rt:109:52
 centre-across-requires : tie.Need-centre-across-requires
 centre-across-requires c κs = search needs
 
--- src/fitting.rt:109:77
 centre-down-requires : tie.Need-centre-down-requires
 centre-down-requires c κs = search needs
 
--- src/fitting.rt:109:17
 ratio-box-requires : tie.Need-ratio-box-requires
 ratio-box-requires c κs = search needs
 
--- src/fitting.rt:94:1
 returns-4 : tie.Need-returns-4
 unfolding fitOf
 returns-4 c =

@@ -1,31 +1,22 @@
+-- `centre_across` meets its contract: the case of the centring, then `clamp01`. Assumes nothing.
 use borrow.Author.Needs.{needs}
-use Rattle.crop_box.proofs.fitting.centre_across.Statement.{statement}
-use Rattle.crop_box.proofs.fitting.centre_across.Tie as tie
-use Rattle.crop_box.proofs.fitting.centre_across.Reads as reads
-use Rattle.crop_box.proofs.fitting.centre_across.Lts as lts
-use Rattle.crop_box.proofs.fitting.clamp01.Reads as clamp01-reads
+use Rattle.crop_box.proofs.centre_across.Statement.{statement}
+use Rattle.crop_box.proofs.centre_across.Tie as tie
 use mathlib.Core.Path.{_∙_, sym, ap}
 use Rattle.crop_box.specs.Fit.{acrossOf}
-use native.Mathlib.Omega.{arith}
 
-
--- src/fitting.rt:48:29
 enum-told : tie.Need-enum-told
 enum-told c = search needs
 
--- src/fitting.rt:49:22
 enum-known-centring : tie.Need-enum-known-centring
 enum-known-centring c = search needs
 
--- src/fitting.rt:49:36
 clamp01-requires : tie.Need-clamp01-requires
 clamp01-requires c κs = search needs
 
--- src/fitting.rt:44:1
 returns : tie.Need-returns
 returns c = search needs
 
--- src/fitting.rt:44:1
 returns-2 : tie.Need-returns-2
 returns-2 c = c .clamp01 .ensures ∙ sym (ap acrossOf (c .before .before .centring .given .1))
 
