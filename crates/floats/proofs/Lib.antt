@@ -1,6 +1,7 @@
 pub mod Laws
 pub mod Value
 pub mod Within
+pub mod AtMost
 pub mod Integers
 pub mod Signs
 pub mod Monotone
