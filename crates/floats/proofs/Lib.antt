@@ -9,3 +9,4 @@ pub mod Pattern
 pub mod Digits
 pub mod Codes
 pub mod Doubles
+pub mod Error
