@@ -1,6 +1,7 @@
 pub mod Laws
 pub mod Value
 pub mod Within
+pub mod AtMost
 pub mod Integers
 pub mod Signs
 pub mod Monotone
@@ -8,3 +9,4 @@ pub mod Pattern
 pub mod Digits
 pub mod Codes
 pub mod Doubles
+pub mod Error
