@@ -1,0 +1,9 @@
+pub mod WeightLaws
+pub mod LineLaws
+pub mod WindowLaws
+pub mod Bounds
+pub mod PlanLaws
+pub mod JudgeLaws
+pub mod BuiltLaws
+pub mod Examples
+pub mod Sure
