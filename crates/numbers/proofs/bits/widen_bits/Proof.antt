@@ -4,7 +4,7 @@ use native.Mathlib.Omega.{arith}
 use mathlib.Core.Path.{_≡_, refl, sym, ap, subst, _∙_}
 use mathlib.Core.Bool.{Bool, not}
 use lib.Dec.{T}
-use lib.Ieee.{Float, nan, binary32, binary64, ofBits, toBits, isNan, fits}
+use lib.Ieee.{nan, binary32, binary64, ofBits, toBits, isNan, fits}
 use lib.Ieee.Bits.{nanBits-is, ofBits-fits}
 use lib.Ieee.Fits.{fits-widens, and-i}
 use Prim.Native.Nat.{ℕ, _<_, _≤_, _%_, _^_}
