@@ -1,4 +1,4 @@
--- `numbers::abs` meets its contract. Assumes nothing.
+-- `abs`: a NaN is told by x != x and answered by one; of any other x the pattern with its sign bit cleared is that of |x| (`cleared-is-abs`). Assumes nothing.
 use mathlib.Core.Path.{_≡_, sym, ap, subst}
 use lib.Dec.{T}
 use lib.Ieee.{Float, nan, binary64, div, ofBits, fits}

@@ -1,4 +1,4 @@
--- `numbers::ceil` meets its contract. Assumes nothing.
+-- `ceil`: as `floor`, with the two sizes exchanged: cut under a minus sign, raised otherwise. Assumes nothing.
 use borrow.Author.Needs.{needs}
 use mathlib.Core.Path.{sym, subst, _∙_}
 use mathlib.Core.Bool.{true, false}

@@ -1,4 +1,5 @@
--- `numbers::floor` meets its contract. Assumes nothing.
+-- `floor`: below 2 ^ 52 the size is raised under a minus sign and cut otherwise, and `joined` puts the sign back; from there on x is whole (`stays`).
+-- `ceil` is the same with the two sizes exchanged. Assumes nothing.
 use borrow.Author.Needs.{needs}
 use mathlib.Core.Path.{sym, subst, _∙_}
 use mathlib.Core.Bool.{true, false}

@@ -1,4 +1,5 @@
--- `numbers::narrow` meets its contract. Assumes nothing.
+-- `narrow`: a NaN is told by x != x; of any other x the pattern is narrowed, and reading the result back gives the narrowed value, since it fits
+-- binary32. Assumes nothing.
 use borrow.Author.Needs.{needs}
 use mathlib.Core.Path.{_≡_, sym, ap, subst, _∙_}
 use mathlib.Core.Bool.{Bool, not}

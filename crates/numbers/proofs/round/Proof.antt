@@ -1,4 +1,4 @@
--- `numbers::round` meets its contract. Assumes nothing.
+-- `round`: below 2 ^ 52 the nearest size with the sign put back (`joined`); from there on x is whole (`stays`). Assumes nothing.
 use borrow.Author.Needs.{needs}
 use mathlib.Core.Path.{sym, subst, _∙_}
 use lib.Dec.{T}

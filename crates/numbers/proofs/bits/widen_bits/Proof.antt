@@ -1,4 +1,4 @@
--- `numbers::widen_bits` meets its contract. Assumes nothing.
+-- `widen_bits`: a pattern above the infinity's is a NaN; of any other the value is read, widened and written. Assumes nothing.
 use borrow.Author.Needs.{needs}
 use native.Mathlib.Omega.{arith}
 use mathlib.Core.Path.{_≡_, refl, sym, ap, subst, _∙_}

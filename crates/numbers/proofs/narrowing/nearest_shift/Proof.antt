@@ -1,4 +1,4 @@
--- `numbers::nearest_shift` meets its contract. Assumes nothing.
+-- `nearest_shift`: the rest against what is left of the unit is twice the rest against the unit, the three cases of the model's `closest`. Assumes nothing.
 use borrow.Author.Needs.{needs}
 use native.Mathlib.Omega.{arith}
 use Prim.Native.Nat.{_%_, _^_, _*_}
