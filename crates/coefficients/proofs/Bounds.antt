@@ -1,6 +1,5 @@
--- What the crop's tests leave of the near edge and the scale: both are from 0 to 8192, and so the radius and every centre are small. A near
--- edge or a width may be minus zero, which is why `Clear` stands beside `Within`.
--- Assumes nothing.
+-- What the crop's tests leave of the near edge and the scale: both are from 0 to 8,192, and so the radius and every centre are small. A near edge or a
+-- width may be minus zero, which is why `Clear` stands beside `Within`. Cited by CropLaws and PlanLaws. Assumes nothing.
 use mathlib.Core.Path.{_≡_, refl, sym, ap, _∙_, subst}
 use mathlib.Core.Logic.{_⊎_, inl, inr}
 use mathlib.Core.Bool.{Bool, true, false, _&&_, _||_, cond, true≢false, false≢true}

@@ -1,18 +1,17 @@
--- A set that was built: no line is blank, and each window of the lists at exit is not empty, no larger than the window size, and ends within the
--- image side, as a pass asks. A range never holds more lines than the window size.
--- Assumes nothing.
-use mathlib.Core.Path.{_≡_, refl, sym, ap, _∙_}
+-- `range-within-window`: a range never holds more lines than the window size. And a set that was built: no line is blank, and each window of the lists at
+-- exit is not empty, no larger than the window size, and ends within the image side, as a pass asks. Cited by the promises. Assumes nothing.
+use mathlib.Core.Path.{_≡_, refl, sym}
 use mathlib.Core.Bool.{Bool, true, false, cond}
 use mathlib.Core.List.{List}
-use Prim.Native.Nat.{ℕ, zero, suc, _+_, _-_, _≤_, _<_}
-use native.Mathlib.Nat.{add-zero, add-suc, suc-add, zero-add, not-suc-le-zero, le-of-suc-le-suc, lt-of-lt-of-le, le-trans, le-of-eq}
+use Prim.Native.Nat.{ℕ, _+_, _-_, _≤_, _<_}
+use native.Mathlib.Nat.{lt-of-lt-of-le, le-trans, le-of-eq}
 use native.Mathlib.Omega.{arith}
 use lib.Dec.{ltb}
 use lib.ListN.{length, getD}
 use lib.Ieee.{Float}
 use borrow.Author.Tests.{ltb-false}
-use Rattle.lists.specs.Tab.{first, front}
-use Rattle.lists.proofs.FirstLaws.{first-le}
+use Rattle.lists.specs.Tab.{front}
+use Rattle.lists.proofs.FirstLaws.{first-le, first-none}
 use Rattle.lists.proofs.TabLaws.{front-below}
 use Rattle.numbers.proofs.Window.{range-fits-window}
 use Rattle.refusal.specs.declared.Refusal.the-variants.{TooFewSlots}
@@ -22,26 +21,18 @@ use Rattle.coefficients.specs.declared.Planned.{Planned}
 use Rattle.coefficients.specs.declared.Planned.the-variants.{Ready, Refused}
 use Rattle.coefficients.specs.declared.Built.the-variants.{Done, Blank, Refused as BuildRefused}
 use Rattle.coefficients.specs.Lines.{centre, rangeStart, rangeStop, lead, size, blank, firstBlank, orZero}
-use Rattle.coefficients.specs.Inner.{Sound}
 use Rattle.coefficients.specs.Request.{planOf, short, judged, built, builtOf, startsOf, sizesOf}
 use Rattle.coefficients.proofs.LineLaws.{or-zero-done}
 use Rattle.coefficients.proofs.PlanLaws.{plan-sound}
 use Rattle.coefficients.proofs.WindowLaws.{window-fits}
 
--- a range never holds more lines than the window size
-pub range-fits : (p : Plan) (i : ℕ) → Sound p → i < 8192 → rangeStop p i - rangeStart p i ≤ p .window
-range-fits p i ok h = le-trans (range-fits-window (p .side) (centre p i) (p .radius) (ok .centred i h) (ok .reach)) (le-of-eq (sym (ok .wide)))
+-- a range never holds more lines than the window size, for every request that is not refused
+pub range-within-window : (q : Request) (p : Plan) → planOf q ≡ Ready p → (i : ℕ) → i < p .output → rangeStop p i - rangeStart p i ≤ p .window
+range-within-window q p e i h =
+    let ok = plan-sound q p e in
+    le-trans (range-fits-window (p .side) (centre p i) (p .radius) (ok .centred i (lt-of-lt-of-le h (ok .lines))) (ok .reach)) (le-of-eq (sym (ok .wide)))
 
-none-step : (t : ℕ → Bool) (p n r k : ℕ) (b : Bool) → t p ≡ b → cond b p r ≡ p + suc n → (r ≡ suc p + n → (j : ℕ) → j < n → t (suc p + j) ≡ false) → k < suc n → t (p + k) ≡ false
-none-step t p n r k true e h next l = let s = add-suc p n in absurd (omega arith)
-none-step t p n r zero false e h next l = ap t (add-zero p) ∙ e
-none-step t p n r (suc k) false e h next l = ap t (add-suc p k ∙ sym (suc-add p k)) ∙ next (h ∙ add-suc p n ∙ sym (suc-add p n)) k (le-of-suc-le-suc l)
-
--- a search that ran to its end passed nothing
-pub first-none : (t : ℕ → Bool) (p n : ℕ) → first t p n ≡ p + n → (k : ℕ) → k < n → t (p + k) ≡ false
-first-none t p zero h k l = absurd (not-suc-le-zero l)
-first-none t p (suc n) h k l = none-step t p n (first t (suc p) n) k (t p) refl h (first-none t (suc p) n) l
-
+-- what is known of a request that was answered with No. 0 and the window size w
 pub record DoneSet (q : Request) (weights starts sizes w : ℕ) : Type 0 where
   pub plan : Plan
   pub ready : planOf q ≡ Ready plan
@@ -75,7 +66,9 @@ done-set q a b c w h = plan-done q a b c w (planOf q) refl h
 -- no line of it is blank
 pub done-lines : {q : Request} {a b c w : ℕ} (d : DoneSet q a b c w) (i : ℕ) → i < d .plan .output → blank (d .plan) i ≡ false
 unfolding firstBlank
-done-lines d i h = ap (blank (d .plan)) (sym (zero-add i)) ∙ first-none (blank (d .plan)) 0 (d .plan .output) (d .whole ∙ sym (zero-add (d .plan .output))) i h
+done-lines d i h =
+    let all = d .whole in
+    first-none (blank (d .plan)) 0 (d .plan .output) i (omega arith) (omega arith) (omega arith)
 
 -- the windows in the lists at exit
 module _ (q : Request) (ws : List Float) (ss zs : List ℕ) (w : ℕ) (done : builtOf q (length ws) (length ss) (length zs) ≡ Done w) where

@@ -1,5 +1,4 @@
--- The four equations of `build`, for each of its ways: a refusal, too few slots, and a set built or blank.
--- Assumes nothing.
+-- The four equations of `build`, for each of its ways: a refusal, too few slots, and a set built or blank. Cited by the proof of `build`. Assumes nothing.
 use mathlib.Core.Path.{_≡_, refl, sym, ap, _∙_}
 use mathlib.Core.Bool.{true, false}
 use mathlib.Core.List.{List}

@@ -2,6 +2,7 @@ pub mod WeightLaws
 pub mod LineLaws
 pub mod WindowLaws
 pub mod Bounds
+pub mod CropLaws
 pub mod PlanLaws
 pub mod JudgeLaws
 pub mod BuiltLaws

@@ -1,5 +1,5 @@
--- One window: what the functions that make it gave is what `Lines` says, and its weights have room in a row.
--- Assumes nothing.
+-- One window: what the functions that make it gave is what Lines.antt says, and its weights have room in a row. Cited by the proofs of `one_window` and
+-- `all_windows`, and by WindowLaws. Assumes nothing.
 use mathlib.Core.Path.{_≡_, refl, ap, _∙_}
 use mathlib.Core.Bool.{Bool, true, false, not}
 use mathlib.Core.List.{List}
@@ -21,7 +21,8 @@ use Rattle.coefficients.specs.Lines.{firstBlank, orZero, centre, rangeSt
 use Rattle.coefficients.specs.Inner.{RowFits, spanOf}
 use Rattle.coefficients.specs.declared.Plan.{Plan}
 use Rattle.coefficients.specs.declared.Span.{Span}
-use Rattle.coefficients.proofs.WeightLaws.{up-ext, first-ge}
+use Rattle.lists.proofs.FirstLaws.{first-ge}
+use Rattle.coefficients.proofs.WeightLaws.{up-ext}
 
 -- a range never holds more lines than the window size, and leading zeros dropped leave fewer
 pub held-room : (p : Plan) (i row : ℕ) → RowFits p i row → held p i ≤ row

@@ -1,11 +1,9 @@
--- The laws of `upTo`: what the loop that drops trailing zeros asks for.
--- Assumes nothing.
+-- The laws of `upTo`: what the loop that drops trailing zeros asks for. Cited by the proof of `trim` and by LineLaws. Assumes nothing.
 use mathlib.Core.Path.{_≡_, refl, sym, ap, _∙_}
 use mathlib.Core.Bool.{Bool, true, false, cond}
 use Prim.Native.Nat.{ℕ, zero, suc, _-_, _≤_, _<_}
 use native.Mathlib.Nat.{not-suc-le-zero, le-refl}
 use native.Mathlib.Omega.{arith}
-use Rattle.lists.specs.Tab.{first}
 use Rattle.coefficients.specs.Weights.{upTo}
 
 -- the last one passes: all are left
@@ -36,12 +34,3 @@ pick-le false n r h = omega arith
 pub up-le : (t : ℕ → Bool) (n : ℕ) → upTo t n ≤ n
 up-le t zero = le-refl 0
 up-le t (suc n) = pick-le (t n) n (upTo t n) (up-le t n)
-
--- a search does not go back
-pick-ge : (b : Bool) (p r : ℕ) → suc p ≤ r → p ≤ cond b p r
-pick-ge true p r h = le-refl p
-pick-ge false p r h = omega arith
-
-pub first-ge : (t : ℕ → Bool) (p n : ℕ) → p ≤ first t p n
-first-ge t p zero = le-refl p
-first-ge t p (suc n) = pick-ge (t p) p (first t (suc p) n) (first-ge t (suc p) n)

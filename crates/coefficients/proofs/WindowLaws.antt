@@ -1,29 +1,19 @@
--- What every window of a set that was built keeps, and what a pass asks of it: it is not empty, no larger than the window size, and ends within
--- the image side. And the paper's words on No. 8: where no weight is other than 0 the total is 0.
--- Assumes nothing.
+-- What every window of a plan that is not blank keeps, and what a pass asks of it: it is not empty, no larger than the window size, and ends within
+-- the image side. And the paper's words on No. 8: where no weight is other than 0 the total is 0. Cited by BuiltLaws. Assumes nothing.
 use mathlib.Core.Path.{_≡_, refl, sym, ap, _∙_}
 use mathlib.Core.Bool.{Bool, true, false, cond, true≢false}
 use Prim.Native.Nat.{ℕ, zero, suc, _+_, _-_, _≤_, _<_}
 use native.Mathlib.Nat.{add-zero, le-refl, le-trans}
 use native.Mathlib.Omega.{arith}
 use lib.Ieee.{eq, ofBits}
-use Rattle.lists.specs.Tab.{first}
 use Rattle.numbers.specs.Window.{stop}
 use Rattle.coefficients.specs.declared.Plan.{Plan}
 use Rattle.coefficients.specs.Weights.{weighs, weighsFrom, leadOf, totalOf, sizeOf, upTo}
 use Rattle.coefficients.specs.Lines.{rangeStart, rangeStop, middle, lead, held, total, size, blank}
 use Rattle.coefficients.specs.Inner.{Sound, RowFits}
+use Rattle.lists.proofs.FirstLaws.{first-passes}
 use Rattle.coefficients.proofs.WeightLaws.{up-le}
 use Rattle.coefficients.proofs.LineLaws.{held-room}
-
-step-passes : (t : ℕ → Bool) (p n r : ℕ) (b : Bool) → t p ≡ b → (r < suc p + n → t r ≡ true) → cond b p r < p + suc n → t (cond b p r) ≡ true
-step-passes t p n r true e next h = e
-step-passes t p n r false e next h = next (omega arith)
-
--- a search that stopped before its end stopped at what passes
-pub first-passes : (t : ℕ → Bool) (p n : ℕ) → first t p n < p + n → t (first t p n) ≡ true
-first-passes t p zero h = let e = add-zero p in absurd (omega arith)
-first-passes t p (suc n) h = step-passes t p n (first t (suc p) n) (t p) refl (first-passes t (suc p) n) h
 
 step-pos : (b : Bool) (n r : ℕ) → 0 < r → 0 < cond b (suc n) r
 step-pos true n r h = omega arith

@@ -1,3 +1,5 @@
+-- `build` meets its contract. Each way out proves the four equations of `All` together (JudgeLaws): a refused plan, too few slots, a blank line, a built set.
+-- That `all_windows` may be called is `plan-sound`. Assumes nothing.
 use mathlib.Core.Path.{_≡_, sym, ap, _∙_}
 use Prim.Native.Nat.{_*_, _≤_}
 use native.Mathlib.Nat.{mul-le-mul}

@@ -1,3 +1,5 @@
+-- `all_windows` meets its contract. The loop keeps three lists written up to line k and the search for the first blank line open from k on; a blank line
+-- zeroes all three, and `front-over` says that what was written before does not matter. The hard need is `row-done`, the row put back. Assumes nothing.
 use Rattle.coefficients.proofs.lines.all_windows.Statement.{statement}
 use Rattle.coefficients.proofs.lines.all_windows.Tie as tie
 use mathlib.Core.Path.{_≡_, sym, ap, _∙_}

@@ -1,3 +1,4 @@
+-- `one_window` meets its contract: what each call gave is what Lines.antt says (LineLaws), and the row has room by `held-room`. Assumes nothing.
 use borrow.Author.Needs.{needs}
 use Rattle.coefficients.proofs.lines.one_window.Statement.{statement}
 use Rattle.coefficients.proofs.lines.one_window.Tie as tie

@@ -1,3 +1,4 @@
+-- `zero_weights` meets its contract: the loop has written the first k slots. Assumes nothing.
 use Rattle.coefficients.proofs.lines.zero_weights.Statement.{statement}
 use Rattle.coefficients.proofs.lines.zero_weights.Tie as tie
 use Prim.Native.Nat.{_≤_, _-_}

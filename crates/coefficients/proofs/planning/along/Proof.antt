@@ -1,3 +1,4 @@
+-- `along` meets its contract: each arm of the match is the line of `edgeOf` for that axis. Assumes nothing.
 use borrow.Author.Needs.{needs}
 use Rattle.coefficients.proofs.planning.along.Statement.{statement}
 use Rattle.coefficients.proofs.planning.along.Tie as tie

@@ -1,3 +1,4 @@
+-- `filter_scale` meets its contract, by the tests that led to each return. Assumes nothing.
 use Rattle.coefficients.proofs.planning.filter_scale.Statement.{statement}
 use Rattle.coefficients.proofs.planning.filter_scale.Tie as tie
 use Rattle.coefficients.specs.Request.{filterScaleOf}

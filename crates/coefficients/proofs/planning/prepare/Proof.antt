@@ -1,3 +1,4 @@
+-- `prepare` meets its contract: the refusals in their order, then the plan, which PlanLaws puts together from what the calls gave. Assumes nothing.
 use mathlib.Core.Path.{sym, ap, _∙_}
 use Rattle.refusal.specs.declared.Refusal.the-variants.{BadSide}
 use Rattle.crop_box.specs.declared.Cropped.{Cropped}

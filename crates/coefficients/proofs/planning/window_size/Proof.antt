@@ -1,3 +1,4 @@
+-- `window_size` meets its contract: a radius of at most 2^14 has a ceiling of at most 2^14, so the cast and the sum are in range. Assumes nothing.
 use Rattle.numbers.proofs.Ranges.{ceil-in}
 use Rattle.floats.specs.Within.{Within}
 use Rattle.floats.proofs.Within.{within-value}

@@ -1,4 +1,4 @@
--- `range_end` meets its contract. Assumes nothing.
+-- `range_end` meets its contract: the sum is small enough to be cast once raised, and the branch is the minimum. Assumes nothing.
 use native.Mathlib.Omega.{arith}
 use Rattle.numbers.proofs.Ranges.{in-ceil, stop-low, stop-high}
 use borrow.Author.Needs.{needs}

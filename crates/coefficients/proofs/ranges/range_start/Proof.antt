@@ -1,4 +1,4 @@
--- `range_start` meets its contract. Assumes nothing.
+-- `range_start` meets its contract: a difference above 0 is small enough to be cast once floored, and any other floors to 0 or below. Assumes nothing.
 use mathlib.Core.Path.{sym, ap, _∙_}
 use Prim.Native.Nat.{_^_}
 use lib.Dec.{lit<, lit≤}

@@ -1,3 +1,4 @@
+-- `finish` meets its contract: the loop has shared out the first k slots, and the slot in hand is still the old one (`front-past`). Assumes nothing.
 use native.Mathlib.Nat.{le-refl}
 use mathlib.Core.List.{List}
 use Rattle.coefficients.proofs.weights.finish.Statement.{statement}

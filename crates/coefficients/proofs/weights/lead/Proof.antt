@@ -1,3 +1,4 @@
+-- `lead` meets its contract: the loop keeps the search open from x on. Assumes nothing.
 use Rattle.coefficients.proofs.weights.lead.Statement.{statement}
 use Rattle.coefficients.proofs.weights.lead.Tie as tie
 use Prim.Native.Nat.{_-_, _+_}

@@ -1,3 +1,4 @@
+-- `line_weight` meets its contract: the filter at the same distance. Assumes nothing.
 use borrow.Author.Needs.{needs}
 use Rattle.coefficients.proofs.weights.line_weight.Statement.{statement}
 use Rattle.coefficients.proofs.weights.line_weight.Tie as tie

@@ -1,3 +1,4 @@
+-- `share` meets its contract: the test of `shareOf` is the code's. Assumes nothing.
 use Rattle.coefficients.proofs.weights.share.Statement.{statement}
 use Rattle.coefficients.proofs.weights.share.Tie as tie
 use borrow.Author.Tests.{lt-ltb, le-ltb}

@@ -1,3 +1,4 @@
+-- `trim` meets its contract: going down, the slots from k on hold zeros only, so `upTo` of n is `upTo` of k. Assumes nothing.
 use Rattle.coefficients.proofs.WeightLaws.{up-stop, up-on}
 use Rattle.coefficients.proofs.weights.trim.Statement.{statement}
 use Rattle.coefficients.proofs.weights.trim.Tie as tie

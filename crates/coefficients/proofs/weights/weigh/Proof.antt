@@ -1,3 +1,4 @@
+-- `weigh` meets its contract: the loop has written k weights and added them in line order. Assumes nothing.
 use Rattle.coefficients.proofs.weights.weigh.Statement.{statement}
 use Rattle.coefficients.proofs.weights.weigh.Tie as tie
 use Prim.Native.Nat.{_≤_, _-_, _+_}
