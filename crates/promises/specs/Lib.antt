@@ -1,0 +1,2 @@
+pub mod SumOfFrames
+pub mod FlatFrames
