@@ -1,0 +1,9 @@
+pub mod Laws
+pub mod Value
+pub mod Within
+pub mod Integers
+pub mod Signs
+pub mod Monotone
+pub mod Pattern
+pub mod Digits
+pub mod Codes
