@@ -1,7 +1,6 @@
 // Standard input, line by line, in a buffer of 262,144 bytes. A line that does not fit is answered by `bad`, and the next is read.
+use crate::buffer;
 use asking::emit;
-ghost use Prim.Native.Nat.{_-_, _≤_};
-ghost use lib.ListN.{length};
 
 // The bytes at .. end are read and not yet answered; long: they are the rest of a line that did not fit; n: the output's place.
 struct State {
@@ -73,27 +72,12 @@ fn turn(s: State, buf: &mut [u8], out: &mut [u8]) -> State {
     if end < at {
         return ended(s.n);
     }
-    let c = newline(buf, at, end);
+    let c = buffer::newline(buf, at, end);
     if c < end {
         let p = one(s.long, &buf[at..c], s.n, out);
         return going(c + 1, end, false, p);
     }
     refill(s, buf, out)
-}
-
-// The place of the first newline from a on, or e where there is none.
-fn newline(s: &[u8], a: usize, e: usize) -> usize
-    requires { ⌜ (a ≤ e) × (e ≤ length (now s)) ⌝ }
-    ensures { λ r. ⌜ (a ≤ r) × (r ≤ e) ⌝ }
-{
-    let mut i = a;
-    while i < e {
-        if s[i] == b'\n' {
-            return i;
-        }
-        i += 1;
-    }
-    i
 }
 
 fn one(long: bool, line: &[u8], n: usize, out: &mut [u8]) -> usize {
@@ -117,45 +101,16 @@ fn refill(s: State, buf: &mut [u8], out: &mut [u8]) -> State {
     if (at == 0) & (end == buf.len()) {
         return going(0, 0, true, s.n);
     }
-    shift(buf, at, end);
+    buffer::shift(buf, at, end);
     let left = end - at;
     if buf.len() < left {
         return ended(s.n);
     }
-    let got = read_at(buf, left);
+    let got = buffer::read_at(buf, left);
     if got == 0 {
         return last(s, left, buf, out);
     }
     going(0, left + got, s.long, s.n)
-}
-
-// How many bytes are read behind the place a; 0 at the input's end.
-fn read_at(buf: &mut [u8], a: usize) -> usize
-    ensures { λ r. ⌜ r ≤ length (now (buf .entry)) - a ⌝ }
-{
-    let e = buf.len();
-    if e < a {
-        return 0;
-    }
-    let got = libc::read(libc::STDIN_FILENO, &mut buf[a..e]);
-    let n = io::count(got, buf);
-    if e - a < n { 0 } else { n }
-}
-
-fn shift(buf: &mut [u8], at: usize, end: usize) {
-    if buf.len() < end {
-        return;
-    }
-    if end < at {
-        return;
-    }
-    let n = end - at;
-    let mut i: usize = 0;
-    while i < n {
-        let b = buf[at + i];
-        buf[i] = b;
-        i += 1;
-    }
 }
 
 // The last line, where no newline ends it.

@@ -1,5 +1,6 @@
 // The program `ask`: requests from standard input, an answer a line (docs/PROTOCOL.md). One more group of requests is one more
 // crate and one more arm of `by_group`.
+mod buffer;
 mod input;
 
 use asking::Words;

@@ -26,7 +26,7 @@ pub fn answer(line: &[u8], w: Words, n: usize, out: &mut [u8]) -> usize {
 }
 
 fn widen(line: &[u8], w: Words, n: usize, out: &mut [u8]) -> usize {
-    let x_read = fields::hex(line, w, 1, 8);
+    let x_read = fields::hex_at(line, w, 1, 8);
     let Num::Is(x) = x_read else {
         return emit::bad(n, out);
     };
@@ -45,7 +45,7 @@ fn wide(x: u32) -> u64 {
 }
 
 fn double(line: &[u8], w: Words, n: usize, out: &mut [u8]) -> usize {
-    let x_read = fields::hex(line, w, 1, 16);
+    let x_read = fields::hex_at(line, w, 1, 16);
     let Num::Is(x) = x_read else {
         return emit::bad(n, out);
     };

@@ -1,5 +1,5 @@
 -- Minus one less a number, over the width: it is in range, and is the size less one of a negative number. Cited by the proofs of
--- `convert`. Assumes nothing.
+-- `signed`. Assumes nothing.
 use mathlib.Core.Path.{_≡_, refl}
 use mathlib.Core.Bool.{true, false}
 use Prim.Native.Nat.{ℕ, zero, suc, _-_, _<_, _≤_, _^_}

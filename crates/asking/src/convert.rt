@@ -1,4 +1,4 @@
-// Casts that fields and lists need, total: what is out of range gives 0.
+// Casts between a field or an element and the number that a line has for it, total: what is out of range gives 0.
 pub(crate) fn to_u8(x: u64) -> u8 {
     if 255 < x {
         return 0;
@@ -20,62 +20,6 @@ pub(crate) fn to_u32(x: u64) -> u32 {
     x as u32
 }
 
-// The i32 of a code of `digits::signed`.
-pub(crate) fn int32(code: u64) -> i32 {
-    if code % 2 == 0 {
-        return pos32(code / 2);
-    }
-    neg32(code / 2)
-}
-
-// The i16 of a code of `digits::signed`.
-pub(crate) fn int16(code: u64) -> i16 {
-    if code % 2 == 0 {
-        return pos16(code / 2);
-    }
-    neg16(code / 2)
-}
-
-pub(crate) fn pos32(x: u64) -> i32 {
-    if 2147483647 < x {
-        return 0;
-    }
-    x as i32
-}
-
-pub(crate) fn pos16(x: u64) -> i16 {
-    if 32767 < x {
-        return 0;
-    }
-    x as i16
-}
-
-// -(x + 1)
-fn neg32(x: u64) -> i32 {
-    if 2147483647 < x {
-        return 0;
-    }
-    let y = x as i32;
-    -1 - y
-}
-
-// -(x + 1)
-fn neg16(x: u64) -> i16 {
-    if 32767 < x {
-        return 0;
-    }
-    let y = x as i16;
-    -1 - y
-}
-
-// The size of an i32.
-pub(crate) fn size(v: i32) -> u64 {
-    if v < 0 {
-        return ((-1 - v) as u64) + 1;
-    }
-    v as u64
-}
-
 pub(crate) fn from_u8(x: u8) -> u64 {
     x as u64
 }
@@ -88,11 +32,39 @@ pub(crate) fn from_u32(x: u32) -> u64 {
     x as u64
 }
 
-pub(crate) fn from_i16(x: i16) -> i32 {
-    x as i32
-}
-
 // What a lent list holds at place i before a call: (7 i + 3) mod 251.
 pub(crate) fn lent(i: usize) -> u64 {
     ((7 * (i % 251) + 3) % 251) as u64
+}
+
+// The single of a pattern; a NaN for any NaN's.
+pub(crate) fn to_f32(b: u32) -> f32 {
+    if b % 0x8000_0000 > 0x7f80_0000 {
+        return 0.0 / 0.0;
+    }
+    f32::from_bits(b)
+}
+
+// The double of a pattern; a NaN for any NaN's.
+pub(crate) fn to_f64(b: u64) -> f64 {
+    if b % 0x8000_0000_0000_0000 > 0x7ff0_0000_0000_0000 {
+        return 0.0 / 0.0;
+    }
+    f64::from_bits(b)
+}
+
+// The pattern of a single; one pattern for every NaN.
+pub(crate) fn from_f32(x: f32) -> u32 {
+    if x != x {
+        return 0x7fc0_0000;
+    }
+    f32::to_bits(x)
+}
+
+// The pattern of a double; one pattern for every NaN.
+pub(crate) fn from_f64(x: f64) -> u64 {
+    if x != x {
+        return 0x7ff8_0000_0000_0000;
+    }
+    f64::to_bits(x)
 }

@@ -52,7 +52,11 @@ fn step16(v: u64, d: u64) -> Num {
 
 fn step(hex: bool, v: u64, b: u8, most: u64) -> Num {
     let d = wide(digit(b));
-    if hex { step16(v, d) } else { step10(v, d, most) }
+    if hex {
+        step16(v, d)
+    } else {
+        step10(v, d, most)
+    }
 }
 
 fn digits(hex: bool, s: &[u8], a: usize, e: usize, most: u64) -> Num {
@@ -89,44 +93,4 @@ pub(crate) fn hex(s: &[u8], a: usize, e: usize, places: usize) -> Num {
         return Num::Bad;
     }
     digits(true, s, a, e, 0)
-}
-
-// The part as a signed number from -(most + 1) to most, as a code: 2 x for x, 2 x + 1 for -(x + 1).
-pub(crate) fn signed(s: &[u8], a: usize, e: usize, most: u64) -> Num {
-    if s.len() < e {
-        return Num::Bad;
-    }
-    if e <= a {
-        return Num::Bad;
-    }
-    if 0xffff_ffff < most {
-        return Num::Bad;
-    }
-    if s[a] == b'-' {
-        return negative(decimal(s, a + 1, e, most + 1));
-    }
-    positive(decimal(s, a, e, most))
-}
-
-fn negative(size: Num) -> Num {
-    let Num::Is(x) = size else {
-        return Num::Bad;
-    };
-    if x == 0 {
-        return Num::Is(0);
-    }
-    if 0xffff_ffff < x {
-        return Num::Bad;
-    }
-    Num::Is((x - 1) * 2 + 1)
-}
-
-fn positive(size: Num) -> Num {
-    let Num::Is(x) = size else {
-        return Num::Bad;
-    };
-    if 0xffff_ffff < x {
-        return Num::Bad;
-    }
-    Num::Is(x * 2)
 }

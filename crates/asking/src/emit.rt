@@ -1,5 +1,5 @@
 // Bytes, words and numbers into the output's buffer, which is written out whenever it is full. Each gives the next place.
-use crate::convert;
+use crate::signed;
 use libc::STDOUT_FILENO;
 
 // One byte.
@@ -70,9 +70,9 @@ pub(crate) fn signed_item(i: usize, v: i32, n: usize, out: &mut [u8]) -> usize {
     let p = comma(i, n, out);
     if v < 0 {
         let q = byte(b'-', p, out);
-        return number(convert::size(v), q, out);
+        return number(signed::size(v), q, out);
     }
-    number(convert::size(v), p, out)
+    number(signed::size(v), p, out)
 }
 
 // Writes out what is left in the buffer.

@@ -1,40 +1,41 @@
 // Lists of i32: read from a line, filled before a call, shown in an answer.
 use crate::convert;
-use crate::digits;
 use crate::digits::Num;
 use crate::emit;
 use crate::fields;
+use crate::fields::Count;
+use crate::signed;
 use crate::words;
 use crate::words::Words;
 
 // Word k as a list into out: how many elements; Bad where one is malformed or out is too short. `-` is the empty list.
-pub fn read(line: &[u8], w: Words, k: usize, out: &mut [i32]) -> Num {
+pub fn read(line: &[u8], w: Words, k: usize, out: &mut [i32]) -> Count {
     if fields::is(line, w, k, b"-") {
-        return Num::Is(0);
+        return Count::Is(0);
     }
     items(line, words::from(w, k), words::to(w, k), out)
 }
 
-fn items(s: &[u8], a: usize, e: usize, out: &mut [i32]) -> Num {
+fn items(s: &[u8], a: usize, e: usize, out: &mut [i32]) -> Count {
     if s.len() < e {
-        return Num::Bad;
+        return Count::Bad;
     }
     let mut at = a;
     let mut n: usize = 0;
     while at <= e {
         let c = words::find(s, b',', at, e);
-        let item = digits::signed(s, at, c, 2147483647);
+        let item = signed::code(s, at, c, 2147483647);
         let Num::Is(x) = item else {
-            return Num::Bad;
+            return Count::Bad;
         };
         if out.len() <= n {
-            return Num::Bad;
+            return Count::Bad;
         }
-        out[n] = convert::int32(x);
+        out[n] = signed::to_i32(x);
         n += 1;
         at = c + 1;
     }
-    Num::Is(n as u64)
+    Count::Is(n)
 }
 
 // What a lent list holds before a call.
@@ -42,7 +43,7 @@ pub fn fill(out: &mut [i32]) {
     let n = out.len();
     let mut i: usize = 0;
     while i < n {
-        out[i] = convert::pos32(convert::lent(i));
+        out[i] = signed::pos32(convert::lent(i));
         i += 1;
     }
 }

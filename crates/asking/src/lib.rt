@@ -4,9 +4,12 @@
 mod convert;
 mod digits;
 pub mod emit;
+pub mod f32s;
+pub mod f64s;
 pub mod fields;
 pub mod i16s;
 pub mod i32s;
+mod signed;
 pub mod u16s;
 pub mod u32s;
 pub mod u8s;

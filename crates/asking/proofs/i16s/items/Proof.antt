@@ -21,8 +21,8 @@ loop-holds c = search needs
 find-requires : tie.Need-find-requires Inv-loop μ-loop
 find-requires c κs = search needs
 
-signed-requires : tie.Need-signed-requires Inv-loop μ-loop
-signed-requires c κs = search needs
+code-requires : tie.Need-code-requires Inv-loop μ-loop
+code-requires c κs = search needs
 
 enum-known-item : tie.Need-enum-known-item Inv-loop μ-loop
 enum-known-item c = search needs
@@ -42,8 +42,8 @@ same-length-2 c = search needs
 returns-3 : tie.Need-returns-3 Inv-loop μ-loop
 returns-3 c = search needs
 
-int16-requires : tie.Need-int16-requires Inv-loop μ-loop
-int16-requires c κs = search needs
+to-i16-requires : tie.Need-to-i16-requires Inv-loop μ-loop
+to-i16-requires c κs = search needs
 
 mul-t13 : tie.Need-mul-t13 Inv-loop μ-loop
 mul-t13 c = search needs
@@ -78,14 +78,14 @@ items-spec =
     returns
     loop-holds
     find-requires
-    signed-requires
+    code-requires
     enum-known-item
     enum-told
     same-length
     returns-2
     same-length-2
     returns-3
-    int16-requires
+    to-i16-requires
     mul-t13
     slice-set-from-out
     add-n

@@ -1,7 +1,7 @@
--- convert::neg16 is safe: minus one less a number in range is in range (`below16`). Assumes nothing.
+-- signed::neg16 is safe: minus one less a number in range is in range (`below16`). Assumes nothing.
 use borrow.Author.Needs.{needs}
-use Rattle.asking.proofs.convert.neg16.Statement.{statement}
-use Rattle.asking.proofs.convert.neg16.Tie as tie
+use Rattle.asking.proofs.signed.neg16.Statement.{statement}
+use Rattle.asking.proofs.signed.neg16.Tie as tie
 use Rattle.asking.proofs.Signs.{below16}
 use native.Mathlib.Omega.{arith}
 use mir.Syntax.{w16}

@@ -1,7 +1,7 @@
--- convert::from_i16 is safe: a number of 16 bits is one of 32 bits. Assumes nothing.
+-- signed::from_i16 is safe: a number of 16 bits is one of 32 bits. Assumes nothing.
 use borrow.Author.Needs.{needs}
-use Rattle.asking.proofs.convert.from_i16.Statement.{statement}
-use Rattle.asking.proofs.convert.from_i16.Tie as tie
+use Rattle.asking.proofs.signed.from_i16.Statement.{statement}
+use Rattle.asking.proofs.signed.from_i16.Tie as tie
 use mir.Facts.{fits-ofZ, sfits-toZ, sfits-widen}
 
 cast-result : tie.Need-cast-result

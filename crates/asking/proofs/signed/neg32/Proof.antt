@@ -1,7 +1,7 @@
--- convert::neg32 is safe: minus one less a number in range is in range (`below32`). Assumes nothing.
+-- signed::neg32 is safe: minus one less a number in range is in range (`below32`). Assumes nothing.
 use borrow.Author.Needs.{needs}
-use Rattle.asking.proofs.convert.neg32.Statement.{statement}
-use Rattle.asking.proofs.convert.neg32.Tie as tie
+use Rattle.asking.proofs.signed.neg32.Statement.{statement}
+use Rattle.asking.proofs.signed.neg32.Tie as tie
 use Rattle.asking.proofs.Signs.{below32}
 use native.Mathlib.Omega.{arith}
 use mir.Syntax.{w32}

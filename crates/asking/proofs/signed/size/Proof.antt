@@ -1,7 +1,7 @@
--- convert::size is safe: of a negative number -(n + 1), minus one less it is n, which is in range. Assumes nothing.
+-- signed::size is safe: of a negative number -(n + 1), minus one less it is n, which is in range. Assumes nothing.
 use borrow.Author.Needs.{needs}
-use Rattle.asking.proofs.convert.size.Statement.{statement}
-use Rattle.asking.proofs.convert.size.Tie as tie
+use Rattle.asking.proofs.signed.size.Statement.{statement}
+use Rattle.asking.proofs.signed.size.Tie as tie
 use Rattle.asking.proofs.Signs.{Below, below, Above, above}
 use mathlib.Core.Path.{_≡_, _∙_, ap}
 use native.Mathlib.Omega.{arith}
