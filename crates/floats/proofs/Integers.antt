@@ -6,12 +6,12 @@ use Prim.Native.Nat.{ℕ, _+_, _-_, _*_, _^_, _≤_, _<_}
 use native.Mathlib.Nat.{le-trans, le-of-eq, zero-lt-suc, mul-one, one-mul, mul-comm, mul-assoc, mul-le-mul, mul-le-mul-right, mul-le-mul-left, mul-pos, mul-mul-mul-comm, sub-le}
 use native.Mathlib.Omega.{arith}
 use lib.IntN.{pos}
-use lib.Dec.{T, ltb, lit≤, le→leb}
-use lib.Ieee.{Float, binary64, round, add, sub, mul, div, ofInt, lt, ofBits, inFloat}
+use lib.Dec.{T, lit≤, le→leb}
+use lib.Ieee.{Float, binary64, round, add, sub, mul, div, ofInt, ofBits, inFloat}
 use lib.Ieee.Exact.{HasValue}
 use lib.Ieee.Back.{round-whole}
 use lib.Ieee.Positive.{num, den, den-pos}
-use Rattle.floats.proofs.Value.{lt-values, add-values, sub-values, mul-values, div-values, like-signs}
+use Rattle.floats.proofs.Value.{add-values, sub-values, mul-values, div-values, like-signs}
 use Rattle.floats.specs.Within.{Within}
 use Rattle.floats.proofs.Within.{within-value, round-within, unlike-signs}
 use Rattle.floats.proofs.Laws.{exact-down}
@@ -33,18 +33,6 @@ add-int a b h =
 
     r : (a b n : ℕ) → a + b ≤ n → b ≤ n
     r a b n h = omega arith
-
-pub sub-int : (a b : ℕ) → b ≤ a → a ≤ 2 ^ 53 → sub binary64 (int a) (int b) ≡ int (a - b)
-sub-int a b l h =
-    sub-values binary64 (int a) (int b) false false a 1 b 1 (zero-lt-suc 0) (zero-lt-suc 0) (int-value a h) (int-value b (le-trans l h))
-    ∙ unlike-signs binary64 (a * 1) (b * 1) 1 (mul-le-mul-right 1 l) ∙ ap (λ (z : ℕ). round binary64 false (z - b * 1) 1) (mul-one a) ∙ ap (λ (z : ℕ). round binary64 false (a - z) 1) (mul-one b)
-
-pub mul-int : (a b : ℕ) → a ≤ 2 ^ 53 → b ≤ 2 ^ 53 → mul binary64 (int a) (int b) ≡ int (a * b)
-mul-int a b h l = mul-values binary64 (int a) (int b) false false a 1 b 1 (zero-lt-suc 0) (zero-lt-suc 0) (int-value a h) (int-value b l)
-
-pub lt-int : (a b : ℕ) → a ≤ 2 ^ 53 → b ≤ 2 ^ 53 → lt (int a) (int b) ≡ ltb a b
-lt-int a b h l =
-    lt-values (int a) (int b) false false a 1 b 1 (zero-lt-suc 0) (zero-lt-suc 0) (int-value a h) (int-value b l) ∙ ap (λ (z : ℕ). ltb z (b * 1)) (mul-one a) ∙ ap (λ (z : ℕ). ltb a z) (mul-one b)
 
 -- ---- what is from 0 to a whole number stays so
 pub within-mul : (x y : Float) (A B : ℕ) → Within x A → Within y B → A * B ≤ 2 ^ 53 → Within (mul binary64 x y) (A * B)

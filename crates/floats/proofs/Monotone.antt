@@ -20,7 +20,7 @@ use Rattle.floats.proofs.Integers.{int, int-value}
 use Rattle.floats.proofs.Signs.{lhs, rhs, lt-nat, le-nat, test}
 
 -- ±a / c at most ±b / d: the second is not below the first
-abbrev pub atMost : Bool → ℕ → ℕ → Bool → ℕ → ℕ → Bool
+abbrev atMost : Bool → ℕ → ℕ → Bool → ℕ → ℕ → Bool
 atMost s a c t b d = not (below t (b * c) s (a * d))
 
 -- ---- `le` turned round
@@ -120,7 +120,7 @@ le-zeros f a c b d C D p q =
     subst (λ (z : Float). T (le z (round f true b d))) (round-same f false 0 1 a c (zero-lt-suc 0) C (zero-mul c ∙ sym (mul-one a ∙ p)))
     (subst (λ (z : Float). T (le (round f false 0 1) z)) (round-same f true 0 1 b d (zero-lt-suc 0) D (zero-mul d ∙ sym (mul-one b ∙ q))) (plain-zeros f))
 
-pub round-mono-signed : (f : Format) (s t : Bool) (a c b d : ℕ) → 0 < c → 0 < d → T (atMost s a c t b d) → T (le (round f s a c) (round f t b d))
+round-mono-signed : (f : Format) (s t : Bool) (a c b d : ℕ) → 0 < c → 0 < d → T (atMost s a c t b d) → T (le (round f s a c) (round f t b d))
 round-mono-signed f false false a c b d C D h = round-mono f a c b d C D (nltb→le (b * c) (a * d) h)
 round-mono-signed f true true a c b d C D h =
     subst (λ (z : Float). T (le z (round f true b d))) (round-neg f false a c)
@@ -136,10 +136,10 @@ round-mono-signed f false true a c b d C D h = let z = both (b * c) (a * d) (nlt
     factor a d D e = eq-of-mul-eq-mul-right d D a 0 (e ∙ sym (zero-mul d))
 
 -- ---- (p - n) / c rounded
-abbrev pub signedRound : Format → ℕ → ℕ → ℕ → Float
+abbrev signedRound : Format → ℕ → ℕ → ℕ → Float
 signedRound f p n c = cond (ltb p n) (round f true (n - p) c) (round f false (p - n) c)
 
-pub signedRound-mono : (f : Format) (p n c p' n' c' : ℕ) → 0 < c → 0 < c' → p * c' + n' * c ≤ p' * c + n * c' → T (le (signedRound f p n c) (signedRound f p' n' c'))
+signedRound-mono : (f : Format) (p n c p' n' c' : ℕ) → 0 < c → 0 < c' → p * c' + n' * c ≤ p' * c + n * c' → T (le (signedRound f p n c) (signedRound f p' n' c'))
 signedRound-mono f p n c p' n' c' C C' h = go (ltb p n) (ltb p' n') (ltb→lt p n) (nltb→le p n) (ltb→lt p' n') (nltb→le p' n')
   where
     less : (n p k n' p' j : ℕ) → p ≤ n → p' ≤ n' → p * k + n' * j ≤ p' * j + n * k → (n' - p') * j ≤ (n - p) * k

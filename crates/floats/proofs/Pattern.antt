@@ -53,7 +53,7 @@ pub field-mid : (f : Format) (s : Bool) (x t : ℕ) → suc x < ones f → ofFie
 unfolding ofFields
 field-mid f s x t h = cond-no (eqb (suc x) (ones f)) (cond (eqb t 0) (inf s) nan) (odd (prec f) s (hid f + t) x (low f)) (lt→neqb (suc x) (ones f) h)
 
-pub field-top : (f : Format) (s : Bool) → ofFields f s (ones f) 0 ≡ inf s
+field-top : (f : Format) (s : Bool) → ofFields f s (ones f) 0 ≡ inf s
 unfolding ofFields
 field-top binary32 s = refl
 field-top binary64 s = refl
@@ -78,7 +78,7 @@ unfolding units
 units-over f s q k h = cond-no (ltb (q * 2 ^ k) (2 ^ (low f + suc (emax f)))) (odd (suc (prec f)) s q k (low f)) (inf s) (le→nltb (q * 2 ^ k) (2 ^ (low f + suc (emax f))) h)
 
 -- `units` is fixed by the number that it stands for
-pub units-same : (f : Format) (s : Bool) (q k q' k' : ℕ) → q ≤ 2 ^ prec f → q' ≤ 2 ^ prec f → q * 2 ^ k ≡ q' * 2 ^ k' → units f s q k ≡ units f s q' k'
+units-same : (f : Format) (s : Bool) (q k q' k' : ℕ) → q ≤ 2 ^ prec f → q' ≤ 2 ^ prec f → q * 2 ^ k ≡ q' * 2 ^ k' → units f s q k ≡ units f s q' k'
 unfolding units
 units-same f s q k q' k' h h' e =
     go (ltb (q * 2 ^ k) O) (ltb→lt (q * 2 ^ k) O) ∙ ap (λ (z : ℕ). cond (ltb z O) (odd (suc (prec f)) s q' k' (low f)) (inf s)) e

@@ -4,11 +4,11 @@ use mathlib.Core.Path.{_≡_, refl, sym, ap, _∙_, subst}
 use mathlib.Core.Bool.{Bool, true, false, not, _&&_, _||_, Bool·beq, cond}
 use mathlib.Core.Logic.{_⊎_, inl, inr}
 use Prim.Native.Nat.{ℕ, _+_, _-_, _*_, _≤_, _<_}
-use native.Mathlib.Nat.{lt-of-mul-lt-mul-right, mul-lt-mul-of-pos-right, zero-mul, mul-assoc, mul-comm, mul-left-comm, add-mul, mul-pos, eq-of-mul-eq-mul-right, mul-sub, mul-mul-mul-comm, le-of-eq, le-of-lt, eq-or-lt-of-le}
+use native.Mathlib.Nat.{lt-of-mul-lt-mul-right, mul-lt-mul-of-pos-right, zero-mul, mul-assoc, mul-comm, mul-left-comm, add-mul, mul-pos, mul-sub, mul-mul-mul-comm, le-of-eq, le-of-lt, eq-or-lt-of-le}
 use native.Mathlib.Omega.{arith}
 use lib.IntN.{ℤ}
 use lib.Dec.{T, ltb, leb, eqb, ltb→lt, lt→ltb, leb→le, eqb→eq, not-T, le→leb}
-use lib.Ieee.{Float, nan, inf, fin, Format, up, down, unlike, round, neg, sum, add, sub, mul, div, lt, eq, below, level}
+use lib.Ieee.{Float, nan, inf, fin, Format, up, down, unlike, round, neg, sum, add, sub, mul, div, lt, below}
 use lib.Ieee.Fits.{down-pos, eq→eqb}
 use lib.Ieee.Exact.{HasValue}
 use lib.Ieee.Scale.{round-same}
@@ -28,12 +28,6 @@ lt-scale A B A' B' j k J K p q h = lt-of-mul-lt-mul-right j (subst (λ (z : ℕ)
 ltb-scale : (A B A' B' j k : ℕ) → 0 < j → 0 < k → A * k ≡ A' * j → B * k ≡ B' * j → ltb A B ≡ ltb A' B'
 ltb-scale A B A' B' j k J K p q =
     same-test (ltb A B) (ltb A' B') (λ t. lt→ltb A' B' (lt-scale A B A' B' j k J K p q (ltb→lt A B t))) (λ t. lt→ltb A B (lt-scale A' B' A B k j K J (sym p) (sym q) (ltb→lt A' B' t)))
-
-eqb-scale : (A B A' B' j k : ℕ) → 0 < j → 0 < k → A * k ≡ A' * j → B * k ≡ B' * j → eqb A B ≡ eqb A' B'
-eqb-scale A B A' B' j k J K p q =
-    same-test (eqb A B) (eqb A' B')
-    (λ t. eq→eqb (eq-of-mul-eq-mul-right j J A' B' (sym p ∙ ap (λ (z : ℕ). z * k) (eqb→eq A B t) ∙ q)))
-    (λ t. eq→eqb (eq-of-mul-eq-mul-right k K A B (p ∙ ap (λ (z : ℕ). z * j) (eqb→eq A' B' t) ∙ sym q)))
 
 pub below-scale : (s t : Bool) (A B A' B' j k : ℕ) → 0 < j → 0 < k → A * k ≡ A' * j → B * k ≡ B' * j → below s A t B ≡ below s A' t B'
 below-scale false false A B A' B' j k J K p q = ltb-scale A B A' B' j k J K p q
@@ -60,24 +54,6 @@ lt-values (fin r m e) (fin u n g) s t a c b d C D p q =
     ∙ ap (λ (z : Bool). below s (m * up e * down g) z (n * up g * down e)) (q .0)
     ∙ below-scale s t (m * up e * down g) (n * up g * down e) (a * d) (b * c) (down e * down g) (c * d) (mul-pos (down-pos e) (down-pos g)) (mul-pos C D)
     (cross (m * up e) a c (n * up g) b d (down e) (down g) (p .1)) (cross' a c (n * up g) b d (down e) (down g) (q .1))
-
-pub eq-values : (x y : Float) (s t : Bool) (a c b d : ℕ) → 0 < c → 0 < d → HasValue x s a c → HasValue y t b d → eq x y ≡ level s (a * d) t (b * c)
-unfolding eq
-eq-values nan y s t a c b d C D p q = absurd p
-eq-values (inf r) y s t a c b d C D p q = absurd p
-eq-values (fin r m e) nan s t a c b d C D p q = absurd q
-eq-values (fin r m e) (inf u) s t a c b d C D p q = absurd q
-eq-values (fin r m e) (fin u n g) s t a c b d C D p q =
-    let A = m * up e * down g in
-    let B = n * up g * down e in
-    let j = down e * down g in
-    let J = mul-pos (down-pos e) (down-pos g) in
-    let K = mul-pos C D in
-    let v = cross (m * up e) a c (n * up g) b d (down e) (down g) (p .1) in
-    let w = cross' a c (n * up g) b d (down e) (down g) (q .1) in
-    ap (λ (z : Bool). level z A u B) (p .0) ∙ ap (λ (z : Bool). level s A z B) (q .0)
-    ∙ ap (λ (z : Bool). z && (Bool·beq s t || eqb A 0)) (eqb-scale A B (a * d) (b * c) j (c * d) J K v w)
-    ∙ ap (λ (z : Bool). eqb (a * d) (b * c) && (Bool·beq s t || z)) (eqb-scale A 0 (a * d) 0 j (c * d) J K v (zero-mul (c * d) ∙ sym (zero-mul j)))
 
 not-zero-test : (n : ℕ) → 0 < n → T (not (eqb n 0))
 not-zero-test n h = not-T (eqb n 0) (λ t. absurd-eq n h (eqb→eq n 0 t))

@@ -93,7 +93,7 @@ round-above f a c n N C M w h =
     above-whole (round f false n 1) (round f false a c) n N (round-whole f false n M) w (round-mono f n 1 a c (zero-lt-suc 0) C (le-trans h (le-of-eq (sym (mul-one a)))))
 
 -- fractions a / p and b / q against whole numbers
-pub sum-le : (a p b q A B : ℕ) → a ≤ A * p → b ≤ B * q → a * q + b * p ≤ (A + B) * (p * q)
+sum-le : (a p b q A B : ℕ) → a ≤ A * p → b ≤ B * q → a * q + b * p ≤ (A + B) * (p * q)
 sum-le a p b q A B h k =
     let x : a * q ≤ A * (p * q) = le-trans (mul-le-mul-right q h) (le-of-eq (mul-assoc A p q)) in
     let y : b * p ≤ B * (p * q) = le-trans (mul-le-mul-right p k) (le-of-eq (mul-assoc B q p ∙ ap (λ (z : ℕ). B * z) (mul-comm q p))) in

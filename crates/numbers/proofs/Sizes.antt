@@ -3,7 +3,7 @@
 use mathlib.Core.Path.{_≡_, refl, sym, ap, _∙_, subst}
 use mathlib.Core.Bool.{Bool, true, false, not, false≢true}
 use Prim.Native.Nat.{ℕ, zero, suc, _+_, _-_, _*_, _/_, _^_, _≤_, _<_, min}
-use native.Mathlib.Nat.{le-add-right, suc-mul, add-zero, le-of-suc-le-suc, le-trans, le-of-eq, le-of-lt, lt-of-lt-of-le, lt-of-le-of-lt, not-le-of-lt, mul-one, mul-assoc, mul-left-comm, add-mul, zero-lt-suc, mul-pos, mul-le-mul-left, mul-le-mul-right, div-one, div-lt-iff-lt-mul, div-eq-of-lt-le, div-mul-le-self, lt-div-mul-add}
+use native.Mathlib.Nat.{le-add-right, suc-mul, le-of-suc-le-suc, le-trans, le-of-eq, le-of-lt, lt-of-lt-of-le, lt-of-le-of-lt, not-le-of-lt, mul-one, mul-assoc, mul-left-comm, add-mul, zero-lt-suc, mul-pos, mul-le-mul-left, mul-le-mul-right, div-lt-iff-lt-mul, div-eq-of-lt-le, div-mul-le-self, lt-div-mul-add}
 use native.Mathlib.Omega.{arith}
 use lib.IntN.{ℤ, pos, negsuc}
 use lib.Dec.{T, ltb, ltb→lt, lt→ltb, nltb→le, lit≤}
@@ -30,7 +30,7 @@ module _ (a c : ℕ) (C : 0 < c) where
   q-hi : a < a / c * c + c
   q-hi = lt-div-mul-add C
 
-  pub raised-up : a / c * c < a → raised a c ≡ a / c + 1
+  raised-up : a / c * c < a → raised a c ≡ a / c + 1
   raised-up h =
       let l = q-lo in
       let g = q-hi in
@@ -38,7 +38,7 @@ module _ (a c : ℕ) (C : 0 < c) where
       let y : (a / c + 1 + 1) * c ≡ (a / c + 1) * c + 1 * c = add-mul (a / c + 1) 1 c in
       div-eq-of-lt-le c (omega arith) (omega arith)
 
-  pub raised-same : a ≤ a / c * c → raised a c ≡ a / c
+  raised-same : a ≤ a / c * c → raised a c ≡ a / c
   raised-same h =
       let l = q-lo in
       let x : (a / c + 1) * c ≡ a / c * c + 1 * c = add-mul (a / c) 1 c in
@@ -47,7 +47,7 @@ module _ (a c : ℕ) (C : 0 < c) where
   half-l : (k : ℕ) → k * (2 * c) ≡ 2 * (k * c)
   half-l k = mul-left-comm k 2 c
 
-  pub half-down : a * 2 < (2 * (a / c) + 1) * c → nearest a c ≡ a / c
+  half-down : a * 2 < (2 * (a / c) + 1) * c → nearest a c ≡ a / c
   half-down h =
       let l = q-lo in
       let z : (2 * (a / c) + 1) * c ≡ 2 * (a / c) * c + 1 * c = add-mul (2 * (a / c)) 1 c in
@@ -57,7 +57,7 @@ module _ (a c : ℕ) (C : 0 < c) where
       let x : (a / c + 1) * c ≡ a / c * c + 1 * c = add-mul (a / c) 1 c in
       div-eq-of-lt-le (2 * c) (omega arith) (omega arith)
 
-  pub half-up : (2 * (a / c) + 1) * c ≤ a * 2 → nearest a c ≡ a / c + 1
+  half-up : (2 * (a / c) + 1) * c ≤ a * 2 → nearest a c ≡ a / c + 1
   half-up h =
       let g = q-hi in
       let z : (2 * (a / c) + 1) * c ≡ 2 * (a / c) * c + 1 * c = add-mul (2 * (a / c)) 1 c in
@@ -78,7 +78,7 @@ module _ (a c : ℕ) (C : 0 < c) where
       le-of-suc-le-suc (div-lt-iff-lt-mul (twice-pos c C) .1 (omega arith))
 
 -- ---- values that are `small`, and what the code finds of them
-pub small-value : (x : Float) → T (small x) → HasValue x false (num x) (den x) × (num x < 2 ^ 52 * den x) × (0 < den x)
+small-value : (x : Float) → T (small x) → HasValue x false (num x) (den x) × (num x < 2 ^ 52 * den x) × (0 < den x)
 unfolding small
 small-value nan t = absurd t
 small-value (inf s) t = absurd t
@@ -86,17 +86,17 @@ small-value (fin true m e) t = absurd t
 small-value (fin false m e) t = ((refl, refl), ltb→lt (m * up e) (2 ^ 52 * down e) t, down-pos e)
 
 -- ---- the comparisons that the code makes
-pub lt-is : (x y : Float) (a c b d : ℕ) → 0 < c → 0 < d → HasValue x false a c → HasValue y false b d → lt x y ≡ ltb (a * d) (b * c)
+lt-is : (x y : Float) (a c b d : ℕ) → 0 < c → 0 < d → HasValue x false a c → HasValue y false b d → lt x y ≡ ltb (a * d) (b * c)
 lt-is x y a c b d C D p q = lt-values x y false false a c b d C D p q
 
-pub yes-lt : (a b : ℕ) (t : Bool) → t ≡ ltb a b → t ≡ true → a < b
+yes-lt : (a b : ℕ) (t : Bool) → t ≡ ltb a b → t ≡ true → a < b
 yes-lt a b t p q = ltb→lt a b (subst T (sym q ∙ p) tt)
 
-pub no-lt : (a b : ℕ) (t : Bool) → t ≡ ltb a b → t ≡ false → b ≤ a
+no-lt : (a b : ℕ) (t : Bool) → t ≡ ltb a b → t ≡ false → b ≤ a
 no-lt a b t p q = nltb→le a b (subst (λ (z : Bool). T (not z)) (sym q ∙ p) tt)
 
 -- below 2 ^ 52 by the code's test: no NaN, and `small`
-pub below-small : (x : Float) → lt (abs x) (ofBits binary64 0x4330_0000_0000_0000) ≡ true → T (not (isNan x)) × T (small (abs x))
+below-small : (x : Float) → lt (abs x) (ofBits binary64 0x4330_0000_0000_0000) ≡ true → T (not (isNan x)) × T (small (abs x))
 unfolding lt ofBits abs small isNan
 below-small nan t = absurd (false≢true t)
 below-small (inf s) t = absurd (false≢true t)
@@ -117,31 +117,22 @@ whole-at : (g : Bool → ℕ → ℕ → ℕ) → ((s : Bool) (a : ℕ) → g s 
 whole-at g one s m e t d =
     ap (λ (z : ℕ). round binary64 s (g s (m * up e) z) 1) d ∙ ap (λ (z : ℕ). round binary64 s z 1) (one s (m * up e)) ∙ ap (λ (z : ℕ). round binary64 s (m * up e) z) (sym d) ∙ round-fit binary64 s m e t
 
-pub big-stays : (g : Bool → ℕ → ℕ → ℕ) → ((s : Bool) (a : ℕ) → g s a 1 ≡ a) → (x : Float) → T (fits binary64 x) → lt (abs x) (ofBits binary64 0x4330_0000_0000_0000) ≡ false → x ≡ whole g binary64 x
+big-stays : (g : Bool → ℕ → ℕ → ℕ) → ((s : Bool) (a : ℕ) → g s a 1 ≡ a) → (x : Float) → T (fits binary64 x) → lt (abs x) (ofBits binary64 0x4330_0000_0000_0000) ≡ false → x ≡ whole g binary64 x
 unfolding lt ofBits abs whole
 big-stays g one nan t h = refl
 big-stays g one (inf s) t h = refl
 big-stays g one (fin s m e) t h = sym (whole-at g one s m e t (big-exp s m e t (le-trans (no-lt (m * up e * 1) (2 ^ 52 * down e) _ refl h) (le-of-eq (mul-one (m * up e))))))
 
-cut-one : (a : ℕ) → cut a 1 ≡ a
-cut-one a = div-one a
-
-raised-one : (a : ℕ) → raised a 1 ≡ a
-raised-one a = div-one (a + 0) ∙ add-zero a
-
 pub downward-one : (s : Bool) (a : ℕ) → downward s a 1 ≡ a
-downward-one true a = raised-one a
-downward-one false a = cut-one a
+downward-one true a = omega arith
+downward-one false a = omega arith
 
 pub upward-one : (s : Bool) (a : ℕ) → upward s a 1 ≡ a
-upward-one true a = cut-one a
-upward-one false a = raised-one a
+upward-one true a = omega arith
+upward-one false a = omega arith
 
 pub away-one : (s : Bool) (a : ℕ) → away s a 1 ≡ a
-away-one s a = half a
-  where
-    half : (a : ℕ) → (2 * a + 1) / (2 * 1) ≡ a
-    half a = omega arith
+away-one s a = omega arith
 
 -- ---- below it, the size with the sign
 joined-abs : (g : Bool → ℕ → ℕ → ℕ) (x : Float) (s : Bool) (n : ℕ) → T (small (abs x)) → s ≡ signOf x → n ≡ g s (num (abs x)) (den (abs x)) → round binary64 s n 1 ≡ whole g binary64 x

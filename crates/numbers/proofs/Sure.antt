@@ -1,5 +1,5 @@
 -- The contract of each helper decides its answer: two results that satisfy it are equal. Assumes nothing.
-use mathlib.Core.Path.{_≡_, _∙_, sym}
+use mathlib.Core.Path.{_∙_, sym}
 use Rattle.lists.proofs.Sure.{DecidesResult}
 use Rattle.numbers.proofs.abs.Kinds as abs
 use Rattle.numbers.proofs.abs.Reads as abs-reads

@@ -37,7 +37,7 @@ ceil-cast (fin true m e) n h w = absurd w
 ceil-cast (fin false m e) n h w = whole-cast (raised (m * up e) (down e)) (lt-of-le-of-lt (raised-le (m * up e) (down e) (down-pos e) n w) h)
 
 -- a / c is at most its ceiling, which is at most one more than its floor
-pub raised-ge : (a c : ℕ) → 0 < c → a ≤ raised a c * c
+raised-ge : (a c : ℕ) → 0 < c → a ≤ raised a c * c
 raised-ge a c C = go a c (raised a c * c) C (lt-div-mul-add {a = a + (c - 1)} C)
   where
     go : (a c X : ℕ) → 0 < c → a + (c - 1) < X + c → a ≤ X

@@ -8,19 +8,26 @@ use super::floor;
 use super::narrowing::narrow_size;
 use super::round;
 
+// The sign bit, the infinity and the quiet NaN of binary64.
+const SIGN: u64 = 0x8000_0000_0000_0000;
+
+const INFINITY: u64 = 0x7ff0_0000_0000_0000;
+
+const QUIET_NAN: u64 = 0x7ff8_0000_0000_0000;
+
 // The pattern with its sign bit cleared, a NaN's too: the payload stays.
 pub fn abs_bits(b: u64) -> u64
     ensures answer { λ r. ⌜ r ≡ b % 2 ^ 63 ⌝ }
 {
-    b % 0x8000_0000_0000_0000
+    b % SIGN
 }
 
 // The pattern of the floor of the value that b stands for.
 pub fn floor_bits(b: u64) -> u64
     ensures answer { λ r. ⌜ r ≡ toBits binary64 (floorF binary64 (ofBits binary64 b)) ⌝ }
 {
-    if b % 0x8000_0000_0000_0000 > 0x7ff0_0000_0000_0000 {
-        return 0x7ff8_0000_0000_0000;
+    if b % SIGN > INFINITY {
+        return QUIET_NAN;
     }
     f64::to_bits(floor(f64::from_bits(b)))
 }
@@ -29,8 +36,8 @@ pub fn floor_bits(b: u64) -> u64
 pub fn ceil_bits(b: u64) -> u64
     ensures answer { λ r. ⌜ r ≡ toBits binary64 (ceilF binary64 (ofBits binary64 b)) ⌝ }
 {
-    if b % 0x8000_0000_0000_0000 > 0x7ff0_0000_0000_0000 {
-        return 0x7ff8_0000_0000_0000;
+    if b % SIGN > INFINITY {
+        return QUIET_NAN;
     }
     f64::to_bits(ceil(f64::from_bits(b)))
 }
@@ -39,8 +46,8 @@ pub fn ceil_bits(b: u64) -> u64
 pub fn round_bits(b: u64) -> u64
     ensures answer { λ r. ⌜ r ≡ toBits binary64 (roundF binary64 (ofBits binary64 b)) ⌝ }
 {
-    if b % 0x8000_0000_0000_0000 > 0x7ff0_0000_0000_0000 {
-        return 0x7ff8_0000_0000_0000;
+    if b % SIGN > INFINITY {
+        return QUIET_NAN;
     }
     f64::to_bits(round(f64::from_bits(b)))
 }
@@ -50,7 +57,7 @@ pub fn widen_bits(b: u32) -> u64
     ensures answer { λ r. ⌜ r ≡ toBits binary64 (ofBits binary32 b) ⌝ }
 {
     if b % 0x8000_0000 > 0x7f80_0000 {
-        return 0x7ff8_0000_0000_0000;
+        return QUIET_NAN;
     }
     f64::to_bits(f32::from_bits(b) as f64)
 }
@@ -59,12 +66,12 @@ pub fn widen_bits(b: u32) -> u64
 pub fn narrow_bits(b: u64) -> u32
     ensures answer { λ r. ⌜ r ≡ toBits binary32 (narrowF (ofBits binary64 b)) ⌝ }
 {
-    let p = b % 0x8000_0000_0000_0000;
-    if p > 0x7ff0_0000_0000_0000 {
+    let p = b % SIGN;
+    if p > INFINITY {
         return 0x7fc0_0000;
     }
     let y = narrow_size(p) as u32;
-    if b < 0x8000_0000_0000_0000 {
+    if b < SIGN {
         return y;
     }
     y + 0x8000_0000

@@ -1,1 +1,4 @@
 pub mod Box
+pub mod Frames
+pub mod FlatFrame
+pub mod ColumnCuts

@@ -1,10 +1,8 @@
 -- A set of windows with their weights, as one record, and how its lists are read. Cited by the contracts of the passes and the sheet writer, and by the
 -- promises. Definitions only. Assumes nothing.
-use mathlib.Core.Bool.{Bool}
 use mathlib.Core.List.{List}
 use Prim.Native.Nat.{ℕ, _+_, _*_}
 use lib.ListN.{length, getD}
-use Rattle.windows.specs.Fit.{badSides, badSet}
 
 -- windows over `lines` camera lines, one for each display line: its first camera line in `starts`, its count of lines in `sizes`, its weights in `window`
 -- slots of `weights`. The precision is 0 for a set of doubles
@@ -15,6 +13,16 @@ pub record Set (W : Type 0) : Type 0 where
   pub starts : List ℕ
   pub sizes : List ℕ
   pub precision : ℕ
+
+abbrev pub setOf : {W : Type 0} → ℕ → ℕ → List W → List ℕ → List ℕ → ℕ → Set W
+setOf lines window weights starts sizes precision = record {
+  lines = lines;
+  window = window;
+  weights = weights;
+  starts = starts;
+  sizes = sizes;
+  precision = precision;
+}
 
 module _ {W : Type 0} (s : Set W) where
   -- how many windows, which is how many display lines
@@ -35,10 +43,3 @@ module _ {W : Type 0} (s : Set W) where
   -- the sample of line k of window i at column j, of a frame given by camera line and column
   abbrev pub sample : {A : Type 0} → (ℕ → ℕ → A) → ℕ → ℕ → ℕ → A
   sample frame i j k = frame (start i + k) j
-
-  -- No. 1 and No. 10 of the set itself
-  abbrev pub sidesBad : Bool
-  sidesBad = badSides (s .lines) windows
-
-  abbrev pub setBad : Bool
-  setBad = badSet (s .lines) (s .window) (length (s .weights)) (s .starts) (s .sizes)

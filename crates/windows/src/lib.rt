@@ -2,6 +2,8 @@
 // and the sheet writer ask it; `badSides` is No. 1 of document 01, `badSet` No. 10 as far as they share it.
 ghost use mathlib.Core.Path.{_≡_};
 ghost use mathlib.Core.Bool.{not};
+ghost use Prim.Native.Nat.{_*_};
+ghost use lib.Dec.{eqb};
 ghost use lib.ListN.{length};
 ghost use Rattle.lists.specs.Tab.{any};
 ghost use Rattle.windows.specs.Fit.{badSides, badCounts, badWindow, badAt, badSet};
@@ -35,18 +37,23 @@ pub fn set_fits(lines: u32, window: u32, slots: usize, starts: &[u32], sizes: &[
     !some_misfits(lines, window, starts, sizes)
 }
 
-// Whether the window size is out of its range or the counts differ. The quotient stands for the product, which may be too large for a usize.
+// Whether a list has `each` slots for each of `rows`, for any numbers. A quotient stands for the product, which may be too large for a usize.
+pub fn fills(length: usize, rows: usize, each: u32) -> bool
+    ensures answer { λ r. ⌜ r ≡ eqb length (rows * each) ⌝ }
+{
+    if each == 0 {
+        return length == 0;
+    }
+    let wide = each as usize;
+    (length / wide == rows) & (length % wide == 0)
+}
+
+// Whether the window size is out of its range or the counts differ.
 fn counts_misfit(window: u32, slots: usize, starts: usize, sizes: usize) -> bool
     ensures answer { λ r. ⌜ r ≡ badCounts window slots starts sizes ⌝ }
 {
-    if (window < 1) | (32769 < window) {
-        return true;
-    }
-    if starts != sizes {
-        return true;
-    }
-    let each = window as usize;
-    (slots / each != starts) | (slots % each != 0)
+    let full = fills(slots, starts, window);
+    (((window < 1) | (32769 < window)) | (starts != sizes)) | !full
 }
 
 // Whether some window of the lists is bad.

@@ -1,9 +1,8 @@
--- `numbers::abs` meets its contract. Assumes nothing.
-use mathlib.Core.Path.{_≡_, refl, sym, ap, subst, _∙_}
-use mathlib.Core.Bool.{Bool, true, false, not}
+-- `abs`: a NaN is told by x != x and answered by one; of any other x the pattern with its sign bit cleared is that of |x| (`cleared-is-abs`). Assumes nothing.
+use mathlib.Core.Path.{_≡_, sym, ap, subst}
 use lib.Dec.{T}
-use lib.Ieee.{Float, nan, inf, fin, binary64, div, ofBits, isNan, ne, fits}
-use lib.Ieee.Compare.{differs-from-itself, nan-differs}
+use lib.Ieee.{Float, nan, binary64, div, ofBits, fits}
+use lib.Ieee.Compare.{differs-from-itself}
 use Rattle.numbers.specs.Whole.{abs}
 use Rattle.numbers.proofs.SignBit.{cleared-is-abs, cleared-number}
 use Rattle.floats.proofs.Codes.{equal-number}

@@ -1,9 +1,8 @@
--- `numbers::ceil` meets its contract. Assumes nothing.
+-- `ceil`: as `floor`, with the two sizes exchanged: cut under a minus sign, raised otherwise. Assumes nothing.
 use borrow.Author.Needs.{needs}
-use mathlib.Core.Path.{_≡_, sym, subst, _∙_}
+use mathlib.Core.Path.{sym, subst, _∙_}
 use mathlib.Core.Bool.{true, false}
 use lib.Dec.{T}
-use lib.Ieee.{binary64}
 use Rattle.numbers.specs.Whole.{upward}
 use Rattle.numbers.proofs.Sizes.{tested, stays, joined, upward-one, raised-fits, cut-fits}
 use Rattle.numbers.proofs.ceil.Statement.{statement}

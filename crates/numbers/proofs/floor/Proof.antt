@@ -1,9 +1,9 @@
--- `numbers::floor` meets its contract. Assumes nothing.
+-- `floor`: below 2 ^ 52 the size is raised under a minus sign and cut otherwise, and `joined` puts the sign back; from there on x is whole (`stays`).
+-- `ceil` is the same with the two sizes exchanged. Assumes nothing.
 use borrow.Author.Needs.{needs}
-use mathlib.Core.Path.{_≡_, sym, subst, _∙_}
+use mathlib.Core.Path.{sym, subst, _∙_}
 use mathlib.Core.Bool.{true, false}
 use lib.Dec.{T}
-use lib.Ieee.{binary64}
 use Rattle.numbers.specs.Whole.{downward}
 use Rattle.numbers.proofs.Sizes.{tested, stays, joined, downward-one, raised-fits, cut-fits}
 use Rattle.numbers.proofs.floor.Statement.{statement}

@@ -1,9 +1,10 @@
--- `numbers::narrow` meets its contract. Assumes nothing.
+-- `narrow`: a NaN is told by x != x; of any other x the pattern is narrowed, and reading the result back gives the narrowed value, since it fits
+-- binary32. Assumes nothing.
 use borrow.Author.Needs.{needs}
-use mathlib.Core.Path.{_≡_, refl, sym, ap, subst, _∙_}
+use mathlib.Core.Path.{_≡_, sym, ap, subst, _∙_}
 use mathlib.Core.Bool.{Bool, not}
 use lib.Dec.{T}
-use lib.Ieee.{Float, nan, binary32, binary64, div, ofBits, toBits, nanBits, isNan, fits}
+use lib.Ieee.{Float, nan, binary32, binary64, div, ofBits, toBits, isNan, fits}
 use lib.Ieee.Compare.{differs-from-itself}
 use lib.Ieee.Bits.{ofBits-toBits, nanBits-is}
 use Rattle.numbers.specs.Whole.{narrow}

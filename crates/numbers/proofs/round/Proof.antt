@@ -1,8 +1,7 @@
--- `numbers::round` meets its contract. Assumes nothing.
+-- `round`: below 2 ^ 52 the nearest size with the sign put back (`joined`); from there on x is whole (`stays`). Assumes nothing.
 use borrow.Author.Needs.{needs}
-use mathlib.Core.Path.{_≡_, sym, subst, _∙_}
+use mathlib.Core.Path.{sym, subst, _∙_}
 use lib.Dec.{T}
-use lib.Ieee.{binary64}
 use Rattle.numbers.specs.Whole.{away}
 use Rattle.numbers.proofs.Sizes.{tested, stays, joined, away-one, half-fits}
 use Rattle.numbers.proofs.round.Statement.{statement}

@@ -1,4 +1,4 @@
--- `numbers::ceil_bits` meets its contract. Assumes nothing.
+-- `ceil_bits`: as `floor_bits`. Assumes nothing.
 use borrow.Author.Needs.{needs}
 use native.Mathlib.Omega.{arith}
 use mathlib.Core.Path.{ap}

@@ -1,4 +1,4 @@
--- `numbers::floor_bits` meets its contract. Assumes nothing.
+-- `floor_bits`: a pattern above the infinity's is a NaN (`whole-nan`); of any other the floor is no NaN, so it has a pattern. Assumes nothing.
 use borrow.Author.Needs.{needs}
 use native.Mathlib.Omega.{arith}
 use mathlib.Core.Path.{ap}

@@ -1,4 +1,4 @@
--- `numbers::narrow_bits` meets its contract. Assumes nothing.
+-- `narrow_bits`: `narrowSize` of the pattern with its sign taken off is the narrowed pattern, and the sign is put back at bit 31. Assumes nothing.
 use borrow.Author.Needs.{needs}
 use native.Mathlib.Omega.{arith}
 use Prim.Native.Nat.{_%_, _^_}

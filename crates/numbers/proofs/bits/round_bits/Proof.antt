@@ -1,4 +1,4 @@
--- `numbers::round_bits` meets its contract. Assumes nothing.
+-- `round_bits`: as `floor_bits`. Assumes nothing.
 use borrow.Author.Needs.{needs}
 use native.Mathlib.Omega.{arith}
 use mathlib.Core.Path.{ap}

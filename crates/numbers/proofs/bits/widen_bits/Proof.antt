@@ -1,10 +1,10 @@
--- `numbers::widen_bits` meets its contract. Assumes nothing.
+-- `widen_bits`: a pattern above the infinity's is a NaN; of any other the value is read, widened and written. Assumes nothing.
 use borrow.Author.Needs.{needs}
 use native.Mathlib.Omega.{arith}
 use mathlib.Core.Path.{_≡_, refl, sym, ap, subst, _∙_}
 use mathlib.Core.Bool.{Bool, not}
 use lib.Dec.{T}
-use lib.Ieee.{Float, nan, binary32, binary64, ofBits, toBits, isNan, fits}
+use lib.Ieee.{nan, binary32, binary64, ofBits, toBits, isNan, fits}
 use lib.Ieee.Bits.{nanBits-is, ofBits-fits}
 use lib.Ieee.Fits.{fits-widens, and-i}
 use Prim.Native.Nat.{ℕ, _<_, _≤_, _%_, _^_}

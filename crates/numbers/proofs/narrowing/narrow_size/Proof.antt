@@ -1,4 +1,4 @@
--- `numbers::narrow_size` meets its contract. Assumes nothing.
+-- `narrow_size`: one case of `narrowSize` for each way, by the exponent's field. Assumes nothing.
 use borrow.Author.Needs.{needs}
 use native.Mathlib.Omega.{arith}
 use Rattle.numbers.proofs.Codes.{size-top, size-over, size-mid, size-low}

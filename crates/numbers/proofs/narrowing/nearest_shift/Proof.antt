@@ -1,7 +1,7 @@
--- `numbers::nearest_shift` meets its contract. Assumes nothing.
+-- `nearest_shift`: the rest against what is left of the unit is twice the rest against the unit, the three cases of the model's `closest`. Assumes nothing.
 use borrow.Author.Needs.{needs}
 use native.Mathlib.Omega.{arith}
-use Prim.Native.Nat.{_/_, _%_, _^_, _*_}
+use Prim.Native.Nat.{_%_, _^_, _*_}
 use Rattle.numbers.proofs.Codes.{shift-unit, shift-pos, rest-le, shift-down, shift-up, shift-tie, shift-room}
 use Rattle.numbers.proofs.narrowing.nearest_shift.Statement.{statement}
 use Rattle.numbers.proofs.narrowing.nearest_shift.Tie as tie

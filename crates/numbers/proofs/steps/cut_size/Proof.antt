@@ -1,4 +1,4 @@
--- `numbers::cut_size` meets its contract. Assumes nothing.
+-- `cut_size`: the library's truncation is in range below 2 ^ 52, and is the quotient. Assumes nothing.
 use mathlib.Core.Path.{_∙_}
 use Rattle.numbers.proofs.Sizes.{cut-asks, cut-given}
 use Rattle.numbers.proofs.steps.cut_size.Statement.{statement}

@@ -1,4 +1,4 @@
--- `numbers::nearest_size` meets its contract. Assumes nothing.
+-- `nearest_size`: q + 0.5 is exact below 2 ^ 52, so the comparison with a decides the half. Assumes nothing.
 use borrow.Author.Needs.{needs}
 use native.Mathlib.Omega.{arith}
 use Rattle.numbers.proofs.Sizes.{cut-fits, cut-small, half-stays, half-goes}

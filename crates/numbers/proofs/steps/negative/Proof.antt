@@ -1,4 +1,4 @@
--- `numbers::negative` meets its contract. Assumes nothing.
+-- `negative`: the sign bit of a pattern is the sign of its value (`sign-bit`). Assumes nothing.
 use borrow.Author.Needs.{needs}
 use mathlib.Core.Path.{sym, subst}
 use lib.Dec.{T}

@@ -1,4 +1,4 @@
--- `numbers::raised_size` meets its contract. Assumes nothing.
+-- `raised_size`: q, the size cut, is compared exactly with a: below it, one more; else a is whole. Assumes nothing.
 use borrow.Author.Needs.{needs}
 use native.Mathlib.Omega.{arith}
 use Rattle.numbers.proofs.Sizes.{cut-fits, cut-small, step-up, step-same}

@@ -1,4 +1,4 @@
--- `numbers::signed` meets its contract. Assumes nothing.
+-- `signed`: a whole number up to 2 ^ 53 is a double, and a minus sign goes through rounding (`round-neg`), so -0 comes out for n = 0. Assumes nothing.
 use mathlib.Core.Path.{_≡_, sym, ap, _∙_}
 use mathlib.Core.Bool.{Bool, true, false}
 use Prim.Native.Nat.{ℕ}
