@@ -3,6 +3,9 @@ pub mod BoxFilter
 pub mod BoxWindow
 pub mod BoxLines
 pub mod BoxPlan
+pub mod BoxSet
+pub mod BoxPrecision
+pub mod BoxPremise
 pub mod Frames
 pub mod FlatFrame
 pub mod ColumnCuts

@@ -1,3 +1,4 @@
 pub mod SumOfFrames
 pub mod FlatFrames
 pub mod ColumnCuts
+pub mod BoxKeepsFlat
