@@ -1,0 +1,3 @@
+pub mod Alpha
+pub mod Lists
+pub mod Words
