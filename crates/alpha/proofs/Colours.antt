@@ -1,15 +1,13 @@
 -- One colour and one alpha: products of bytes are small, and the results are bytes. Cited by the proofs of the functions on colours and pixels.
 -- Assumes nothing.
 use mathlib.Core.Path.{_≡_, subst}
-use mathlib.Core.Bool.{Bool, true, false, cond}
-use Prim.Native.Nat.{ℕ, zero, suc, _+_, _*_, _/_, _≤_, _<_, min}
+use Prim.Native.Nat.{ℕ, zero, suc, _*_, _≤_, _<_}
 use native.Mathlib.Nat.{mul-le-mul, div-lt-iff-lt-mul}
 use native.Mathlib.Omega.{arith}
-use lib.Dec.{eqb}
 use borrow.Author.Tests.{ne-eqb}
 use Rattle.integers.specs.Nearest.{Nearest, nearest}
 use Rattle.integers.proofs.Width.{nearest-over-width, over-255}
-use Rattle.alpha.specs.Alpha.{multiplied, reciprocal, quotient, divided}
+use Rattle.alpha.specs.Alpha.{multiplied, reciprocal, divided}
 
 pub bytes-product : (c a : ℕ) → c < 256 → a < 256 → c * a ≤ 65025
 bytes-product c a h k = let l : c ≤ 255 = omega arith in let m : a ≤ 255 = omega arith in mul-le-mul l m

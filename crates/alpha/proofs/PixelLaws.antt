@@ -6,8 +6,8 @@ use mathlib.Core.List.{List}
 use Prim.Native.Nat.{ℕ, _+_, _*_, _/_, _%_, _<_, _≤_}
 use native.Mathlib.Omega.{arith}
 use lib.Dec.{eqb}
-use borrow.Author.Tests.{ne-eqb, eqb-true, not-false}
 use lib.ListN.{length, getD, set}
+use borrow.Author.Tests.{ne-eqb, eqb-true, not-false}
 use Rattle.lists.specs.Tab.{tab, front}
 use Rattle.lists.proofs.BoolLaws.{or-left, or-right}
 use Rattle.lists.proofs.TabLaws.{Written, written-more, front-past, front-whole}

@@ -1,6 +1,6 @@
 -- One colour multiplied and divided by one alpha, 8 bits. Cited by the contracts of alpha and by the promises. Definitions only. Assumes nothing.
-use Prim.Native.Nat.{ℕ, _+_, _*_, _/_, min}
 use mathlib.Core.Bool.{cond}
+use Prim.Native.Nat.{ℕ, _+_, _*_, _/_, min}
 use lib.Dec.{eqb}
 use Rattle.integers.specs.Nearest.{nearest}
 

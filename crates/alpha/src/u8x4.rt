@@ -1,17 +1,13 @@
 // Lists of pixels, as in the Rust's alpha/u8x4/native.rs.
 use crate::Applied;
-use crate::common::RECIP_ALPHA;
-use crate::pixels::divided_pixel;
-use crate::pixels::load4;
-use crate::pixels::multiplied_pixel;
-use crate::pixels::store4;
+use crate::divide::divide_into;
+use crate::divide::divide_within;
+use crate::multiply::multiply_into;
+use crate::multiply::multiply_within;
+use crate::recip::RECIP_ALPHA;
 use refusal::Refusal;
 ghost use mathlib.Core.Path.{_≡_};
-ghost use Prim.Native.Nat.{_%_, _≤_};
-ghost use lib.ListN.{length};
-ghost use Rattle.lists.specs.Tab.{tab};
-ghost use Rattle.alpha.specs.Alpha.{multiplied, divided, reciprocal};
-ghost use Rattle.alpha.specs.Lists.{badLists, componentAt, appliedTo, multipliedList, dividedList};
+ghost use Rattle.alpha.specs.Lists.{badLists, appliedTo, multipliedList, dividedList};
 
 // Whether two lists are not equally long, or no multiple of four components long.
 fn bad_lists(src: usize, dst: usize) -> bool
@@ -66,68 +62,4 @@ pub fn divide_alpha_inplace(pixels: &mut [u8]) -> Applied
     }
     divide_within(pixels, &RECIP_ALPHA);
     Applied::Done
-}
-
-fn multiply_into(src: &[u8], dst: &mut [u8])
-    requires { ⌜ length (now src) ≡ length (now dst) ⌝ }
-    requires { ⌜ length (now src) % 4 ≡ 0 ⌝ }
-    ensures written { λ _. ⌜ now (dst .exit) ≡ tab 0 (length (now (src .entry))) (componentAt multiplied (now (src .entry))) ⌝ }
-{
-    let n = dst.len() / 4;
-    let mut q: usize = 0;
-    while q < n {
-        store4(dst, q * 4, multiplied_pixel(load4(src, q * 4)));
-        q += 1;
-    }
-}
-
-fn multiply_within(pixels: &mut [u8])
-    requires { ⌜ length (now pixels) % 4 ≡ 0 ⌝ }
-    ensures written { λ _. ⌜ now (pixels .exit) ≡ tab 0 (length (now (pixels .entry))) (componentAt multiplied (now (pixels .entry))) ⌝ }
-{
-    let n = pixels.len() / 4;
-    let mut q: usize = 0;
-    while q < n {
-        store4(pixels, q * 4, multiplied_pixel(load4(pixels, q * 4)));
-        q += 1;
-    }
-}
-
-// The table's entry for alpha.
-fn reciprocal_of(alpha: u8, reciprocals: &[u32; 256]) -> u32
-    requires { ⌜ now reciprocals ≡ tab 0 256 reciprocal ⌝ }
-    ensures answer { λ r. ⌜ r ≡ reciprocal alpha ⌝ }
-    ensures small { λ r. ⌜ r ≤ 65280 ⌝ }
-{
-    reciprocals[alpha as usize]
-}
-
-// The alpha that picks the reciprocal is read as a byte of its own: the pixel's word need not be taken apart for it.
-fn divide_into(src: &[u8], dst: &mut [u8], reciprocals: &[u32; 256])
-    requires { ⌜ length (now src) ≡ length (now dst) ⌝ }
-    requires { ⌜ length (now src) % 4 ≡ 0 ⌝ }
-    requires { ⌜ now reciprocals ≡ tab 0 256 reciprocal ⌝ }
-    ensures written { λ _. ⌜ now (dst .exit) ≡ tab 0 (length (now (src .entry))) (componentAt divided (now (src .entry))) ⌝ }
-{
-    let n = dst.len() / 4;
-    let mut q: usize = 0;
-    while q < n {
-        let recip = reciprocal_of(src[q * 4 + 3], reciprocals);
-        store4(dst, q * 4, divided_pixel(load4(src, q * 4), recip));
-        q += 1;
-    }
-}
-
-fn divide_within(pixels: &mut [u8], reciprocals: &[u32; 256])
-    requires { ⌜ length (now pixels) % 4 ≡ 0 ⌝ }
-    requires { ⌜ now reciprocals ≡ tab 0 256 reciprocal ⌝ }
-    ensures written { λ _. ⌜ now (pixels .exit) ≡ tab 0 (length (now (pixels .entry))) (componentAt divided (now (pixels .entry))) ⌝ }
-{
-    let n = pixels.len() / 4;
-    let mut q: usize = 0;
-    while q < n {
-        let recip = reciprocal_of(pixels[q * 4 + 3], reciprocals);
-        store4(pixels, q * 4, divided_pixel(load4(pixels, q * 4), recip));
-        q += 1;
-    }
 }

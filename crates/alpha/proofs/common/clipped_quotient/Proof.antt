@@ -1,8 +1,8 @@
 -- `common::clipped_quotient` meets its contract: the product is at most 255 x 65280, so it fits; the two ways are the two sides of `min`.
 -- Assumes nothing.
+use Prim.Native.Nat.{_≤_}
 use native.Mathlib.Nat.{mul-le-mul}
 use native.Mathlib.Omega.{arith}
-use Prim.Native.Nat.{_≤_}
 use borrow.Author.Needs.{needs}
 use Rattle.alpha.proofs.common.clipped_quotient.Statement.{statement}
 use Rattle.alpha.proofs.common.clipped_quotient.Tie as tie

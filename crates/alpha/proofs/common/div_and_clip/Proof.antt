@@ -1,7 +1,7 @@
 -- `common::div_and_clip` meets its contract: a byte times 32 bits fits 64 bits; the two ways are the two sides of `min`. Assumes nothing.
+use Prim.Native.Nat.{_≤_}
 use native.Mathlib.Nat.{mul-le-mul}
 use native.Mathlib.Omega.{arith}
-use Prim.Native.Nat.{_≤_}
 use borrow.Author.Needs.{needs}
 use Rattle.alpha.proofs.common.div_and_clip.Statement.{statement}
 use Rattle.alpha.proofs.common.div_and_clip.Tie as tie

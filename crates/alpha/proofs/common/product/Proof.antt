@@ -1,7 +1,7 @@
 -- `common::product` meets its contract: the expression is the nearest whole number to x / 255 (`over-255`) since the product of two bytes is at most
 -- 65025. Assumes nothing.
-use native.Mathlib.Omega.{arith}
 use Prim.Native.Nat.{_*_}
+use native.Mathlib.Omega.{arith}
 use Rattle.integers.proofs.Width.{over-255}
 use Rattle.alpha.proofs.Colours.{bytes-product, multiplied-byte}
 use Rattle.alpha.proofs.common.product.Statement.{statement}

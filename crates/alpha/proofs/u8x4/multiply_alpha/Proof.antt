@@ -1,8 +1,8 @@
 -- `u8x4::multiply_alpha` meets its contract: lists that pass the test are equally long and whole pixels, so `multiply_into` has what it asks for.
 -- Assumes nothing.
-use mathlib.Core.Path.{_≡_, _∙_, refl, sym}
-use borrow.Author.Needs.{needs}
+use mathlib.Core.Path.{_∙_, refl, sym}
 use lib.ListN.{length}
+use borrow.Author.Needs.{needs}
 use Rattle.alpha.specs.Lists.{multipliedList}
 use Rattle.alpha.proofs.PixelLaws.{lists-fit}
 use Rattle.alpha.proofs.u8x4.multiply_alpha.Statement.{statement}

@@ -1,16 +1,16 @@
--- `u8x4::reciprocal_of` meets its contract: the table is the list of the rule's values, so each entry follows the rule. Assumes nothing.
+-- `divide::reciprocal_of` meets its contract: the table is the list of the rule's values, so each entry follows the rule. Assumes nothing.
 use mathlib.Core.Path.{_≡_, _∙_, ap}
+use mathlib.Core.List.{List}
 use Prim.Native.Nat.{ℕ}
 use native.Mathlib.Nat.{zero-add}
 use native.Mathlib.Omega.{arith}
 use lib.ListN.{getD}
-use mathlib.Core.List.{List}
 use borrow.Author.Needs.{needs}
 use Rattle.lists.proofs.TabLaws.{getD-tab}
 use Rattle.alpha.specs.Alpha.{reciprocal}
 use Rattle.alpha.proofs.Colours.{reciprocal-small}
-use Rattle.alpha.proofs.u8x4.reciprocal_of.Statement.{statement}
-use Rattle.alpha.proofs.u8x4.reciprocal_of.Tie as tie
+use Rattle.alpha.proofs.divide.reciprocal_of.Statement.{statement}
+use Rattle.alpha.proofs.divide.reciprocal_of.Tie as tie
 
 mul-result : tie.Need-mul-result
 mul-result c = search needs

@@ -1,21 +1,16 @@
--- `u8x4::multiply_into` meets its contract: before turn q the first q pixels are written by the rule and the rest is as it was; a turn stores one
+-- `multiply::multiply_into` meets its contract: before turn q the first q pixels are written by the rule and the rest is as it was; a turn stores one
 -- pixel more (`pixel-more`). Assumes nothing.
-use mathlib.Core.Path.{_≡_, _∙_, ap, refl}
-use Rattle.alpha.proofs.u8x4.multiply_into.Statement.{statement}
-use Rattle.alpha.proofs.u8x4.multiply_into.Tie as tie
-use Rattle.alpha.proofs.pixels.load4.Reads as load4-reads
-use Rattle.alpha.proofs.pixels.multiplied_pixel.Reads as multiplied-pixel-reads
-use Rattle.alpha.proofs.pixels.store4.Reads as store4-reads
+use Prim.Native.Nat.{ℕ, _*_, _-_, _<_, _≤_}
+use native.Mathlib.Omega.{arith}
+use lib.ListN.{length, getD}
+use borrow.Author.Needs.{needs}
 use Rattle.lists.proofs.TabLaws.{Written, written-none}
 use Rattle.alpha.specs.Alpha.{multiplied}
 use Rattle.alpha.specs.Lists.{componentAt}
 use Rattle.alpha.proofs.Colours.{multiplied-byte}
 use Rattle.alpha.proofs.PixelLaws.{multiplied-word, pixel-more, pixels-all}
-use Prim.Native.Nat.{ℕ, _+_, _*_, _-_, _<_, _≤_}
-use lib.ListN.{length, getD}
-use borrow.Author.Needs.{needs}
-use native.Mathlib.Omega.{arith}
-
+use Rattle.alpha.proofs.multiply.multiply_into.Statement.{statement}
+use Rattle.alpha.proofs.multiply.multiply_into.Tie as tie
 
 abbrev Inv-loop : tie.InvT-loop
 Inv-loop src dst₀ n q₀ dst q = (q ≤ n) × Written (q * 4) (componentAt multiplied src) dst₀ dst

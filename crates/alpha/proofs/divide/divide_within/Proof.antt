@@ -1,21 +1,16 @@
--- `u8x4::divide_within` meets its contract: as `divide_into`; the pixel that a turn reads is not written yet (`still`, `still-word`). Assumes nothing.
+-- `divide::divide_within` meets its contract: as `divide_into`; the pixel that a turn reads is not written yet (`still`, `still-word`). Assumes nothing.
 use mathlib.Core.Path.{_≡_, _∙_, ap, refl}
-use Rattle.alpha.proofs.u8x4.divide_within.Statement.{statement}
-use Rattle.alpha.proofs.u8x4.divide_within.Tie as tie
-use Rattle.alpha.proofs.pixels.divided_pixel.Reads as divided-pixel-reads
-use Rattle.alpha.proofs.pixels.load4.Reads as load4-reads
-use Rattle.alpha.proofs.pixels.store4.Reads as store4-reads
-use Rattle.alpha.proofs.u8x4.reciprocal_of.Reads as reciprocal-of-reads
+use Prim.Native.Nat.{ℕ, _+_, _*_, _-_, _<_, _≤_}
+use native.Mathlib.Omega.{arith}
+use lib.ListN.{length, getD}
+use borrow.Author.Needs.{needs}
 use Rattle.lists.proofs.TabLaws.{Written, written-none}
 use Rattle.alpha.specs.Lists.{componentAt}
-use Prim.Native.Nat.{ℕ, _+_, _*_, _-_, _<_, _≤_}
-use lib.ListN.{length, getD}
 use Rattle.alpha.specs.Alpha.{divided, reciprocal}
 use Rattle.alpha.proofs.Colours.{divided-byte}
 use Rattle.alpha.proofs.PixelLaws.{divided-word, pixel-more, pixels-all, still, still-word}
-use borrow.Author.Needs.{needs}
-use native.Mathlib.Omega.{arith}
-
+use Rattle.alpha.proofs.divide.divide_within.Statement.{statement}
+use Rattle.alpha.proofs.divide.divide_within.Tie as tie
 
 abbrev Inv-loop : tie.InvT-loop
 Inv-loop pixels₀ reciprocals n q₀ pixels q = (q ≤ n) × Written (q * 4) (componentAt divided pixels₀) pixels₀ pixels

@@ -1,20 +1,16 @@
--- `u8x4::multiply_within` meets its contract: as `multiply_into`; the pixel that a turn reads is not written yet (`still-word`). Assumes nothing.
-use mathlib.Core.Path.{_≡_, _∙_, ap, refl}
-use Rattle.alpha.proofs.u8x4.multiply_within.Statement.{statement}
-use Rattle.alpha.proofs.u8x4.multiply_within.Tie as tie
-use Rattle.alpha.proofs.pixels.load4.Reads as load4-reads
-use Rattle.alpha.proofs.pixels.multiplied_pixel.Reads as multiplied-pixel-reads
-use Rattle.alpha.proofs.pixels.store4.Reads as store4-reads
+-- `multiply::multiply_within` meets its contract: as `multiply_into`; the pixel that a turn reads is not written yet (`still-word`). Assumes nothing.
+use mathlib.Core.Path.{_∙_, refl}
+use Prim.Native.Nat.{ℕ, _*_, _-_, _<_, _≤_}
+use native.Mathlib.Omega.{arith}
+use lib.ListN.{length, getD}
+use borrow.Author.Needs.{needs}
 use Rattle.lists.proofs.TabLaws.{Written, written-none}
 use Rattle.alpha.specs.Lists.{componentAt}
-use Prim.Native.Nat.{ℕ, _+_, _*_, _-_, _<_, _≤_}
-use lib.ListN.{length, getD}
 use Rattle.alpha.specs.Alpha.{multiplied}
 use Rattle.alpha.proofs.Colours.{multiplied-byte}
-use Rattle.alpha.proofs.PixelLaws.{multiplied-word, pixel-more, pixels-all, still, still-word}
-use borrow.Author.Needs.{needs}
-use native.Mathlib.Omega.{arith}
-
+use Rattle.alpha.proofs.PixelLaws.{multiplied-word, pixel-more, pixels-all, still-word}
+use Rattle.alpha.proofs.multiply.multiply_within.Statement.{statement}
+use Rattle.alpha.proofs.multiply.multiply_within.Tie as tie
 
 abbrev Inv-loop : tie.InvT-loop
 Inv-loop pixels₀ n q₀ pixels q = (q ≤ n) × Written (q * 4) (componentAt multiplied pixels₀) pixels₀ pixels

@@ -1,21 +1,15 @@
--- `u8x4::divide_into` meets its contract: as `multiply_into`, with the quotient by the table's reciprocal. Assumes nothing.
-use mathlib.Core.Path.{_≡_, _∙_, ap, refl}
-use Rattle.alpha.proofs.u8x4.divide_into.Statement.{statement}
-use Rattle.alpha.proofs.u8x4.divide_into.Tie as tie
-use Rattle.alpha.proofs.pixels.divided_pixel.Reads as divided-pixel-reads
-use Rattle.alpha.proofs.pixels.load4.Reads as load4-reads
-use Rattle.alpha.proofs.pixels.store4.Reads as store4-reads
-use Rattle.alpha.proofs.u8x4.reciprocal_of.Reads as reciprocal-of-reads
+-- `divide::divide_into` meets its contract: as `multiply_into`, with the quotient by the table's reciprocal. Assumes nothing.
+use Prim.Native.Nat.{ℕ, _*_, _-_, _<_, _≤_}
+use native.Mathlib.Omega.{arith}
+use lib.ListN.{length, getD}
+use borrow.Author.Needs.{needs}
 use Rattle.lists.proofs.TabLaws.{Written, written-none}
 use Rattle.alpha.specs.Lists.{componentAt}
-use Prim.Native.Nat.{ℕ, _+_, _*_, _-_, _<_, _≤_}
-use lib.ListN.{length, getD}
-use Rattle.alpha.specs.Alpha.{divided, reciprocal}
+use Rattle.alpha.specs.Alpha.{divided}
 use Rattle.alpha.proofs.Colours.{divided-byte}
 use Rattle.alpha.proofs.PixelLaws.{divided-word, pixel-more, pixels-all}
-use borrow.Author.Needs.{needs}
-use native.Mathlib.Omega.{arith}
-
+use Rattle.alpha.proofs.divide.divide_into.Statement.{statement}
+use Rattle.alpha.proofs.divide.divide_into.Tie as tie
 
 abbrev Inv-loop : tie.InvT-loop
 Inv-loop src dst₀ reciprocals n q₀ dst q = (q ≤ n) × Written (q * 4) (componentAt divided src) dst₀ dst
