@@ -1,7 +1,7 @@
 -- Rows of tests: a `|` of tests that failed, and a ladder of refusals that did not refuse. Cited wherever a judge's answer is taken apart.
 -- Assumes nothing.
 use mathlib.Core.Path.{_≡_, refl}
-use mathlib.Core.Bool.{Bool, true, false, cond, _||_}
+use mathlib.Core.Bool.{Bool, true, false, not, cond, _||_}
 use Prim.Native.Nat.{ℕ}
 use native.Mathlib.Omega.{arith}
 
@@ -22,3 +22,12 @@ or-right false b h = h
 pub ladder : {A : Type 0} (t : Bool) {a r b : A} → (a ≡ b → ⊥) → cond t a r ≡ b → (t ≡ false) × (r ≡ b)
 ladder true other h = absurd (other h)
 ladder false other h = (refl, h)
+
+-- a judge said r, which is `not b`, and code asked `!r`: whether b held
+pub asked-bad : (b : Bool) {r : Bool} → r ≡ not b → not r ≡ true → b ≡ true
+asked-bad true e h = refl
+asked-bad false e h = rw e at h
+
+pub asked-good : (b : Bool) {r : Bool} → r ≡ not b → not r ≡ false → b ≡ false
+asked-good true e h = rw e at h
+asked-good false e h = refl

@@ -3,5 +3,6 @@ pub mod FirstLaws
 pub mod AnyLaws
 pub mod TurnLaws
 pub mod OverLaws
+pub mod StoreLaws
 pub mod BoolLaws
 pub mod Sure

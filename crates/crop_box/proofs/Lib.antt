@@ -1,0 +1,4 @@
+pub mod Sure
+pub mod Rows
+pub mod RowLaws
+pub mod Examples

@@ -1,0 +1,41 @@
+-- `ratio_box` meets its contract: the tests of the ratios choose one of three extents, and `placed` places it. Assumes nothing.
+use borrow.Author.Needs.{needs}
+use Rattle.crop_box.proofs.fitting.ratio_box.Statement.{statement}
+use Rattle.crop_box.proofs.fitting.ratio_box.Tie as tie
+use Rattle.crop_box.specs.Fit.{ratioBox}
+
+abs-requires : tie.Need-abs-requires
+abs-requires c κs = search needs
+
+placed-requires : tie.Need-placed-requires
+placed-requires c κs = search needs
+
+returns : tie.Need-returns
+unfolding ratioBox
+returns c = rw (← c .before .before .abs .ensures, c .before .if1 .taken) (c .placed .ensures)
+
+placed-requires-2 : tie.Need-placed-requires-2
+placed-requires-2 c κs = search needs
+
+returns-2 : tie.Need-returns-2
+unfolding ratioBox
+returns-2 c = rw (← c .before .before .before .abs .ensures, c .before .before .if1 .left, c .before .if2 .taken) (c .placed2 .ensures)
+
+placed-requires-3 : tie.Need-placed-requires-3
+placed-requires-3 c κs = search needs
+
+returns-3 : tie.Need-returns-3
+unfolding ratioBox
+returns-3 c = rw (← c .before .before .before .abs .ensures, c .before .before .if1 .left, c .before .if2 .left) (c .placed3 .ensures)
+
+pub ratio-box-spec : {M : Type 1} → statement M
+ratio-box-spec =
+    tie.close
+    (tie.spec
+    abs-requires
+    placed-requires
+    returns
+    placed-requires-2
+    returns-2
+    placed-requires-3
+    returns-3)

@@ -1,0 +1,2 @@
+pub mod Crop
+pub mod Fit

@@ -1,0 +1,64 @@
+// The checks of `crop`: a function for each row of document 01's table, in its order.
+ghost use mathlib.Core.Path.{_≡_};
+ghost use Rattle.crop_box.specs.Crop.{cropOf, badSides, notFinite, negativeExtent, startOutside, endOutside};
+use crate::CropBox;
+use crate::Cropped;
+use crate::finite;
+use refusal::Refusal;
+
+// No. 1: a side outside 1 to 8,192.
+fn bad_sides(w: u32, h: u32) -> bool
+    ensures answer { λ r. ⌜ r ≡ badSides w h ⌝ }
+{
+    (w < 1) | (8192 < w) | (h < 1) | (8192 < h)
+}
+
+// No. 2: a number that is NaN or infinite.
+fn not_finite(b: CropBox) -> bool
+    ensures answer { λ r. ⌜ r ≡ notFinite b ⌝ }
+{
+    !(finite(b.left) & finite(b.top) & finite(b.width) & finite(b.height))
+}
+
+// No. 3: width or height below 0; minus zero is not.
+fn negative_extent(b: CropBox) -> bool
+    ensures answer { λ r. ⌜ r ≡ negativeExtent b ⌝ }
+{
+    (b.width < 0.0) | (b.height < 0.0)
+}
+
+// No. 4: left or top below 0, or at or past the side.
+fn start_outside(w: u32, h: u32, b: CropBox) -> bool
+    ensures answer { λ r. ⌜ r ≡ startOutside w h b ⌝ }
+{
+    (b.left < 0.0) | (w as f64 <= b.left) | (b.top < 0.0) | (h as f64 <= b.top)
+}
+
+// No. 5: left + width or top + height past the side, each sum rounded once.
+fn end_outside(w: u32, h: u32, b: CropBox) -> bool
+    ensures answer { λ r. ⌜ r ≡ endOutside w h b ⌝ }
+{
+    ((w as f64) < b.left + b.width) | ((h as f64) < b.top + b.height)
+}
+
+// The box as it is, or the first refusal that applies, for any sides and any four numbers.
+pub fn crop(w: u32, h: u32, b: CropBox) -> Cropped
+    ensures answer { λ r. ⌜ r ≡ cropOf w h b ⌝ }
+{
+    if bad_sides(w, h) {
+        return Cropped::Refused(Refusal::BadSide);
+    }
+    if not_finite(b) {
+        return Cropped::Refused(Refusal::NotFinite);
+    }
+    if negative_extent(b) {
+        return Cropped::Refused(Refusal::NegativeExtent);
+    }
+    if start_outside(w, h, b) {
+        return Cropped::Refused(Refusal::StartOutside);
+    }
+    if end_outside(w, h, b) {
+        return Cropped::Refused(Refusal::EndOutside);
+    }
+    Cropped::Inside(b)
+}

@@ -1,0 +1,96 @@
+// Fitting, operation by operation as in crop_box.rs of the Rust.
+ghost use mathlib.Core.Path.{_≡_};
+ghost use Rattle.crop_box.specs.Fit.{fitOf, largeSides, zeroSide, placedBox, ratioBox};
+use crate::Centring;
+use crate::CropBox;
+use crate::Fitted;
+use crate::bad_centring;
+use crate::centre_across;
+use crate::centre_down;
+use refusal::Refusal;
+
+// 2^-52, the step from 1 to the next double.
+const EPSILON: f64 = 2.220446049250313e-16;
+
+// No. 1: a side above 8,192. A side of 0 is no refusal here.
+fn large_sides(src_width: u32, src_height: u32, dst_width: u32, dst_height: u32) -> bool
+    ensures answer { λ r. ⌜ r ≡ largeSides «src_width» «src_height» «dst_width» «dst_height» ⌝ }
+{
+    (8192 < src_width) | (8192 < src_height) | (8192 < dst_width) | (8192 < dst_height)
+}
+
+// Any side is 0.
+fn zero_side(src_width: u32, src_height: u32, dst_width: u32, dst_height: u32) -> bool
+    ensures answer { λ r. ⌜ r ≡ zeroSide «src_width» «src_height» «dst_width» «dst_height» ⌝ }
+{
+    (src_width == 0) | (src_height == 0) | (dst_width == 0) | (dst_height == 0)
+}
+
+// A box of the given extent in a source of the given sides.
+fn placed(
+    width: f64,
+    height: f64,
+    crop_width: f64,
+    crop_height: f64,
+    across: f64,
+    down: f64,
+) -> CropBox
+    ensures answer { λ r. ⌜ r ≡ placedBox width height «crop_width» «crop_height» across down ⌝ }
+{
+    CropBox {
+        left: (width - crop_width) * across,
+        top: (height - crop_height) * down,
+        width: crop_width,
+        height: crop_height,
+    }
+}
+
+// The box with the ratio that is required: the source itself where its ratio is within 2^-52, else its sides or its top and bottom cut.
+fn ratio_box(width: f64, height: f64, required: f64, across: f64, down: f64) -> CropBox
+    ensures answer { λ r. ⌜ r ≡ ratioBox width height required across down ⌝ }
+{
+    let ratio = width / height;
+    if numbers::abs(ratio - required) < EPSILON {
+        return placed(width, height, width, height, across, down);
+    }
+    if ratio >= required {
+        return placed(width, height, required * height, height, across, down);
+    }
+    placed(width, height, width, width / required, across, down)
+}
+
+// The box of the display's ratio of sides; the source's sides where any side is 0; or the first refusal that applies.
+pub fn fit_src_into_dst_size(
+    src_width: u32,
+    src_height: u32,
+    dst_width: u32,
+    dst_height: u32,
+    centring: Centring,
+) -> Fitted
+    ensures answer { λ r. ⌜ r ≡ fitOf «src_width» «src_height» «dst_width» «dst_height» centring ⌝ }
+{
+    if large_sides(src_width, src_height, dst_width, dst_height) {
+        return Fitted::Refused(Refusal::BadSide);
+    }
+    if bad_centring(centring) {
+        return Fitted::Refused(Refusal::NotFinite);
+    }
+    let width = src_width as f64;
+    let height = src_height as f64;
+    if zero_side(src_width, src_height, dst_width, dst_height) {
+        return Fitted::Fit(CropBox {
+            left: 0.0,
+            top: 0.0,
+            width: width,
+            height: height,
+        });
+    }
+    let required = dst_width as f64 / dst_height as f64;
+    Fitted::Fit(ratio_box(
+        width,
+        height,
+        required,
+        centre_across(centring),
+        centre_down(centring),
+    ))
+}

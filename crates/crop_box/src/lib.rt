@@ -1,0 +1,86 @@
+// `crop_box`: which part of the camera image is shown. `crop` judges a `CropBox` against the image's sides (No. 1 to 5);
+// `fit_src_into_dst_size` gives the box that has the display's ratio of sides, placed by a `Centring`.
+mod checks;
+mod fitting;
+
+ghost use mathlib.Core.Path.{_≡_};
+ghost use Rattle.floats.specs.Doubles.{isFinite};
+ghost use Rattle.crop_box.specs.Fit.{badCentring, clamped, acrossOf, downOf};
+pub use checks::crop;
+pub use fitting::fit_src_into_dst_size;
+use refusal::Refusal;
+
+// In camera lines and columns, from the upper left corner.
+pub struct CropBox {
+    pub left: f64,
+    pub top: f64,
+    pub width: f64,
+    pub height: f64,
+}
+
+pub enum Cropped {
+    Inside(CropBox),
+    Refused(Refusal),
+}
+
+// Where the box lies in what is left over: from 0, at the left and top, to 1, at the right and bottom.
+pub enum Centring {
+    Absent,
+    At(f64, f64),
+}
+
+pub enum Fitted {
+    Fit(CropBox),
+    Refused(Refusal),
+}
+
+// Whether x is neither NaN nor infinite. A NaN fails both comparisons.
+fn finite(x: f64) -> bool
+    ensures answer { λ r. ⌜ r ≡ isFinite x ⌝ }
+{
+    let inf = 1.0 / 0.0;
+    (-inf < x) & (x < inf)
+}
+
+// No. 2: a centring number that is NaN or infinite.
+fn bad_centring(centring: Centring) -> bool
+    ensures answer { λ r. ⌜ r ≡ badCentring centring ⌝ }
+{
+    match centring {
+        Centring::Absent => false,
+        Centring::At(across, down) => !(finite(across) & finite(down)),
+    }
+}
+
+// x clamped to 0..1; minus zero stays as it is.
+fn clamp01(x: f64) -> f64
+    ensures answer { λ r. ⌜ r ≡ clamped x ⌝ }
+{
+    if x < 0.0 {
+        return 0.0;
+    }
+    if 1.0 < x {
+        return 1.0;
+    }
+    x
+}
+
+// Across the image: 0.5 where the centring is absent.
+fn centre_across(centring: Centring) -> f64
+    ensures answer { λ r. ⌜ r ≡ acrossOf centring ⌝ }
+{
+    match centring {
+        Centring::Absent => 0.5,
+        Centring::At(across, _) => clamp01(across),
+    }
+}
+
+// Down the image, likewise.
+fn centre_down(centring: Centring) -> f64
+    ensures answer { λ r. ⌜ r ≡ downOf centring ⌝ }
+{
+    match centring {
+        Centring::Absent => 0.5,
+        Centring::At(_, down) => clamp01(down),
+    }
+}

@@ -1,0 +1,82 @@
+// `numbers`: document 01's number helpers. On values: `abs`, `floor`, `ceil`, `round` (half away from zero), `widen` (f32 to f64) and
+// `narrow` (f64 to f32, ties to even). The same on bit patterns, `abs_bits` and so on, where every NaN gives the quiet NaN with sign and payload 0.
+// The roundings work by trial steps on the size |x| and put the sign back, so that a zero result has the argument's sign.
+mod bits;
+mod narrowing;
+mod steps;
+
+ghost use mathlib.Core.Path.{_≡_};
+ghost use lib.Ieee.{binary64};
+ghost use Rattle.numbers.specs.Whole.{abs as absF, floor as floorF, ceil as ceilF, roundAway as roundF, narrow as narrowF};
+pub use bits::abs_bits;
+pub use bits::ceil_bits;
+pub use bits::floor_bits;
+pub use bits::narrow_bits;
+pub use bits::round_bits;
+pub use bits::widen_bits;
+
+// |x|: the sign bit cleared.
+pub fn abs(x: f64) -> f64
+    ensures answer { λ r. ⌜ r ≡ absF x ⌝ }
+{
+    if x != x {
+        return 0.0 / 0.0;
+    }
+    f64::from_bits(f64::to_bits(x) % 0x8000_0000_0000_0000)
+}
+
+// The largest whole number that is at most x. From 2^52 on every double is whole.
+pub fn floor(x: f64) -> f64
+    ensures answer { λ r. ⌜ r ≡ floorF binary64 x ⌝ }
+{
+    let a = abs(x);
+    if a < 4503599627370496.0 {
+        if steps::negative(x) {
+            return steps::signed(true, steps::raised_size(a));
+        }
+        return steps::signed(false, steps::cut_size(a));
+    }
+    x
+}
+
+// The smallest whole number that is at least x.
+pub fn ceil(x: f64) -> f64
+    ensures answer { λ r. ⌜ r ≡ ceilF binary64 x ⌝ }
+{
+    let a = abs(x);
+    if a < 4503599627370496.0 {
+        if steps::negative(x) {
+            return steps::signed(true, steps::cut_size(a));
+        }
+        return steps::signed(false, steps::raised_size(a));
+    }
+    x
+}
+
+// The whole number nearest to x, a half going away from zero.
+pub fn round(x: f64) -> f64
+    ensures answer { λ r. ⌜ r ≡ roundF binary64 x ⌝ }
+{
+    let a = abs(x);
+    if a < 4503599627370496.0 {
+        return steps::signed(steps::negative(x), steps::nearest_size(a));
+    }
+    x
+}
+
+// The binary32 value nearest to x, a tie to the even one, an infinity where x is too large.
+pub fn narrow(x: f64) -> f32
+    ensures answer { λ r. ⌜ r ≡ narrowF x ⌝ }
+{
+    if x != x {
+        return 0.0 / 0.0;
+    }
+    f32::from_bits(bits::narrow_bits(f64::to_bits(x)))
+}
+
+// The same value as a double: every binary32 value is one.
+pub fn widen(x: f32) -> f64
+    ensures answer { λ r. ⌜ r ≡ x ⌝ }
+{
+    std::num::f32_to_f64_with_nan(x)
+}

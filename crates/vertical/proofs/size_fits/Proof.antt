@@ -1,0 +1,22 @@
+-- The sides are judged by `windows`, the row by two comparisons. Assumes nothing.
+use borrow.Author.Needs.{needs}
+use Rattle.lists.proofs.BoolLaws.{asked-bad, asked-good}
+use Rattle.windows.specs.Fit.{badSides}
+use Rattle.vertical.proofs.size_fits.Statement.{statement}
+use Rattle.vertical.proofs.size_fits.Tie as tie
+
+sides-fit-requires : tie.Need-sides-fit-requires
+sides-fit-requires c κs = search needs
+
+returns : tie.Need-returns
+returns c =
+    let a = c .before .before .args in
+    rw (asked-bad (badSides (a .lines) (a .windows)) (c .before .sides-fit .ensures) (c .if1 .taken))
+
+returns-2 : tie.Need-returns-2
+returns-2 c =
+    let a = c .before .before .args in
+    rw (asked-good (badSides (a .lines) (a .windows)) (c .before .sides-fit .ensures) (c .if1 .left))
+
+pub size-fits-spec : {M : Type 1} → statement M
+size-fits-spec = tie.close (tie.spec sides-fit-requires returns returns-2)

@@ -1,0 +1,47 @@
+-- A frame of samples in one list, a range of its columns, and the output of a pass over them. Cited by the definitions of both passes, and by the promises.
+-- Definitions only. Assumes nothing.
+use mathlib.Core.Bool.{Bool, not, _||_}
+use mathlib.Core.List.{List}
+use Prim.Native.Nat.{ℕ, _+_, _*_}
+use lib.Dec.{eqb, ltb}
+use lib.ListN.{length, getD}
+use Rattle.lists.specs.Tab.{tab, grid}
+use Rattle.windows.specs.Fit.{outside, badSides, badSet}
+use Rattle.windows.specs.Set.{Set, windows}
+
+-- the sample of a camera line at a column, where the lines stand one after the other in rows of `row` samples; d stands for a sample that is not there
+abbrev pub frame : {A : Type 0} → A → List A → ℕ → ℕ → ℕ → A
+frame d src row line column = getD src (line * row + column) d
+
+-- what a pass writes: a row for each window, the columns from first on, count of them. `at i j` is the value of window i at column j
+abbrev pub output : {A : Type 0} → (ℕ → ℕ → A) → ℕ → ℕ → ℕ → List A
+output at windows first count = tab 0 (windows * count) (grid count (λ i j. at i (first + j)))
+
+-- the same columns, taken from the output over the whole row
+abbrev pub columns : {A : Type 0} → A → ℕ → ℕ → ℕ → ℕ → List A → List A
+columns d row windows first count whole = tab 0 (windows * count) (grid count (λ i j. getD whole (i * row + (first + j)) d))
+
+-- No. 1: a side, or a row length outside 1 to 32,768
+abbrev pub badSize : ℕ → ℕ → ℕ → Bool
+badSize lines windows row = badSides lines windows || outside 1 32768 row
+
+-- No. 10: a source length that is not lines x row length
+abbrev pub badFrame : ℕ → ℕ → ℕ → Bool
+badFrame samples lines row = not (eqb samples (lines * row))
+
+-- No. 10: columns past the row; an output length that is not windows x count
+abbrev pub badRange : ℕ → ℕ → ℕ → ℕ → ℕ → Bool
+badRange row first count windows room = ltb row (first + count) || not (eqb room (windows * count))
+
+-- No. 10 of both passes: the set, the frame, or the columns
+abbrev pub badShape : ℕ → ℕ → ℕ → ℕ → ℕ → ℕ → ℕ → List ℕ → List ℕ → ℕ → Bool
+badShape samples lines row first count window slots starts sizes room =
+    (badSet lines window slots starts sizes || badFrame samples lines row) || badRange row first count (length starts) room
+
+-- the same of a set
+module _ {W : Type 0} (s : Set W) where
+  abbrev pub sizeBad : ℕ → Bool
+  sizeBad row = badSize (s .lines) (windows s) row
+
+  abbrev pub shapeBad : ℕ → ℕ → ℕ → ℕ → ℕ → Bool
+  shapeBad samples row first count room = badShape samples (s .lines) row first count (s .window) (length (s .weights)) (s .starts) (s .sizes) room

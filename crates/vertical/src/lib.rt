@@ -1,0 +1,60 @@
+// `vertical`: what the two vertical passes answer and write. The definitions that `vertical_u16` and `vertical_f32` are proved against, the judge of sizes and
+// shape that both ask (`badSize` is No. 1 of document 01, `badShape` the No. 10 that they share), and the promise that a range of columns gives those
+// columns of the whole frame.
+use refusal::Refusal;
+use windows::fills;
+use windows::set_fits;
+use windows::sides_fit;
+ghost use mathlib.Core.Path.{_≡_};
+ghost use mathlib.Core.Bool.{not};
+ghost use Rattle.vertical.specs.Frame.{badSize, badRange, badShape};
+
+pub enum Passed {
+    // 0: every window's row is written
+    Done,
+    // why not; the output is unchanged
+    Refused(Refusal),
+}
+
+// Whether both sides are 1 to 8,192 and a row has 1 to 32,768 samples, for any counts.
+pub fn size_fits(lines: u32, windows: usize, row: u32) -> bool
+    ensures answer { λ r. ⌜ r ≡ not (badSize lines windows row) ⌝ }
+{
+    if !sides_fit(lines, windows) {
+        return false;
+    }
+    !((row < 1) | (32768 < row))
+}
+
+// Whether the set, the frame and the columns fit their lists, for any numbers and lists.
+pub fn shape_fits(
+    samples: usize,
+    lines: u32,
+    row: u32,
+    first: u32,
+    count: u32,
+    window: u32,
+    slots: usize,
+    starts: &[u32],
+    sizes: &[u32],
+    room: usize,
+) -> bool
+    ensures answer { λ r. ⌜ r ≡ not (badShape samples lines row first count window slots (now (starts .entry)) (now (sizes .entry)) room) ⌝ }
+{
+    if !set_fits(lines, window, slots, starts, sizes) {
+        return false;
+    }
+    if !fills(samples, lines as usize, row) {
+        return false;
+    }
+    columns_fit(row, first, count, starts.len(), room)
+}
+
+// Whether the columns are in the row, and the output has room for them exactly. Their end is taken in 64 bits, where it cannot wrap.
+fn columns_fit(row: u32, first: u32, count: u32, windows: usize, room: usize) -> bool
+    ensures answer { λ r. ⌜ r ≡ not (badRange row first count windows room) ⌝ }
+{
+    let end = first as u64 + count as u64;
+    let full = fills(room, windows, count);
+    !(((row as u64) < end) | !full)
+}

@@ -1,0 +1,14 @@
+-- The tests are those of the definition, in its order; the product is judged by `fills`. Assumes nothing.
+use borrow.Author.Needs.{needs}
+use Rattle.windows.proofs.counts_misfit.Statement.{statement}
+use Rattle.windows.proofs.counts_misfit.Tie as tie
+
+-- src/lib.rt
+fills-requires : tie.Need-fills-requires
+fills-requires c κs = search needs
+
+returns : tie.Need-returns
+returns c = rw (c .fills .ensures)
+
+pub counts-misfit-spec : {M : Type 1} → statement M
+counts-misfit-spec = tie.close (tie.spec fills-requires returns)

@@ -1,0 +1,16 @@
+//! Ours. The way into the given file of this folder.
+
+use crate::convolution::u8x4::coefficients_of;
+use crate::door::{Frame, FrameMut, Weights};
+use crate::pixels::F32;
+
+mod native;
+
+/// The given pass over a frame of one-component pixels.
+pub(crate) fn pass(src: &Frame<F32>, dst: &mut FrameMut<F32>, first: u32, set: &Weights) {
+    native::vert_convolution(src, dst, first, &coefficients_of(set));
+}
+
+impl crate::door::Door {
+    pub(crate) const PASS_F32: fn(&Frame<F32>, &mut FrameMut<F32>, u32, &Weights) = pass;
+}

@@ -1,0 +1,374 @@
+#!/usr/bin/env python3
+"""The lists that the gate replays: requests of one group, and the oracle's answers.
+
+usage: stored.py ORACLE TESTFLOAT FOLDER [group ..]        (no group: all of them)
+
+Writes FOLDER/GROUP.in and FOLDER/GROUP.out. TESTFLOAT is the file of TestFloat's cases (`n X floor ceil round narrow`,
+`w X widened`): their answers are stored, and the oracle has to give the same. The seed is fixed: the same lines every time.
+"""
+import random
+import subprocess
+import sys
+
+from generate import *
+
+SEED = 20261115
+
+
+def testfloat(path):
+    """Requests with SoftFloat's answers."""
+    for line in open(path):
+        word = line.split()
+        if word and word[0] == "n":
+            for name, answer in zip(("floor", "ceil", "round", "narrow"), word[2:]):
+                yield "%s %s" % (name, word[1]), answer
+        elif word and word[0] == "w":
+            yield "widen %s" % word[1], word[2]
+
+
+def numbers(r):
+    names = ("floor", "ceil", "round", "narrow")
+    last = 2**52 - 1
+    for e in range(2047):  # every exponent's first pattern, or its last
+        f, sign = (0, last)[e // 4 % 2], e // 8 % 2
+        yield "%s %016x" % (names[e % 4], sign << 63 | e << 52 | f)
+    for e in range(1021, 1077):  # where roundings to whole numbers act
+        half = 1 << max(0, 1074 - e)
+        for f in (0, last, half & last, (half - 1) & last, (half + 1) & last):
+            for name in names[:3]:
+                yield "%s %016x" % (name, (e + f) % 2 << 63 | e << 52 | f)
+    for e in list(range(870, 900)) + [1022, 1023, 1024, 1149, 1150, 1151, 1152]:  # where narrowing rounds, with its ties
+        cut = min(29 + max(0, 897 - e), 52)
+        for kept in (0, 1, 2):
+            for low in (-1, 0, 1):
+                f = ((kept << cut) + (1 << (cut - 1)) + low) & last
+                yield "narrow %016x" % ((kept + low) % 2 << 63 | e << 52 | f)
+        yield "narrow %016x" % (e << 52 | last)
+    for x in CORNERS:
+        for y in (x, -x):
+            for name in ("abs",) + names:
+                yield "%s %s" % (name, hex64(y))
+    for b in NANS:
+        for name in ("abs",) + names:
+            yield "%s %016x" % (name, b)
+    for e in range(256):
+        yield "widen %08x" % (e % 2 << 31 | e << 23)
+        yield "widen %08x" % (e // 2 % 2 << 31 | e << 23 | 0x7FFFFF)
+    for k in range(23):
+        yield "widen %08x" % (1 << k)
+        yield "widen %08x" % (0x80000000 | (1 << k) + 1)
+    for b in (0x7FC00000, 0xFFC00000, 0x7F800001, 0xFFC00001):
+        yield "widen %08x" % b
+    for _ in range(300):
+        yield helper(r)
+    yield from ("floor 3FF0000000000000", "floor 3ff000000000000", "floor", "floor 3ff0000000000000 0", "", "widen 3ff0000000000000", "flour 0",
+                "round -", "narrow 00000000000000000", " floor 0000000000000000", "floor  0000000000000000", "floor 0000000000000000 ")
+
+
+def alpha_group(r):
+    for name, extra in (("mul8", True), ("div8in", False)):  # all pairs: a pixel has three colours of one alpha
+        for block in range(0, 256, 32):
+            list_of = []
+            for a in range(block, block + 32):
+                for c in range(0, 258, 3):
+                    list_of += [c, min(c + 1, 255), min(c + 2, 255), a]
+            yield "%s %s%s" % (name, joined(list_of), " %d" % len(list_of) if extra else "")
+    for name in ("mul8", "div8"):
+        for n in range(10):
+            src = [r.randint(0, 255) for _ in range(n)]
+            for lent_to in range(10):
+                yield "%s %s %d" % (name, joined(src), lent_to)
+            yield "%sin %s" % (name, joined(src))
+    for name in ("mul8in", "div8"):  # some of the pairs the other way
+        for block in range(0, 256, 128):
+            list_of = [v for a in range(block, block + 128) for c in range(a, 254, 97) for v in (c, c + 1, c + 2, a)]
+            yield "%s %s%s" % (name, joined(list_of), " %d" % len(list_of) if name == "div8" else "")
+    for _ in range(60):
+        yield alpha(r)
+    yield from ("mul8 256,0,0,0 4", "mul8 1,2,3,-1 4", "mul8 1,2,,4 4", "mul8 1,2,3,4", "mul8in 1,2,3,4 4", "div8 - 0", "div8in -", "mul8  4", "mul8 1,2,3,4, 4",
+                "div8 1 2,3,4 4", "mul9 1,2,3,4 4", "")
+
+
+def crop_group(r):
+    for kind in KINDS:
+        for x in (0.0, 0.5, 1.0, 1.5, 2.0):
+            near = (x, TINY) if x == 0 else (step(x, -1), x, step(x, 1))
+            for y in near:
+                yield "filter %s %s" % (kind, hex64(y))
+                yield "filter %s %s" % (kind, hex64(-y))
+        for x in (INF, -INF, NAN, 1e300, LEAST):
+            yield "filter %s %s" % (kind, hex64(x))
+        for _ in range(25):
+            yield "filter %s %s" % (kind, hex64(argument(r)))
+    one, zero = hex64(1.0), hex64(0.0)
+    for text in ("1 1 %s %s %s %s" % tuple(map(hex64, n)) for n in (
+            (-TINY, 0.0, 0.0, 0.0), (NAN, 0.0, 1.0, 1.0), (0.0, 0.0, NAN, 1.0), (-INF, 0.0, INF, 1.0), (0.0, 0.0, INF, 1.0), (0.0, 0.0, -INF, 1.0),
+            (INF, 0.0, 0.0, 1.0), (0.0, 0.0, 1.0, 1.0), (-0.0, -0.0, -0.0, -0.0), (0.0, 0.0, -TINY, 1.0), (0.0, 0.0, 1.0, -TINY), (1.0, 0.0, 0.0, 1.0),
+            (0.0, 1.0, 1.0, 0.0), (0.75, 0.0, 0.25, 1.0), (0.75, 0.0, 0.25 + 2.0**-54, 1.0), (0.75, 0.0, step(0.25, 2), 1.0), (step(1.0, -1), 0.0, 2.0**-53, 1.0),
+            (-TINY, 0.0, 2.0, 1.0), (-TINY, 0.0, -TINY, 1.0), (2.0, 0.0, -1.0, 1.0), (0.0, -TINY, 1.0, 5.0), (0.0, 0.0, 1.0, step(1.0, 1)))):
+        yield "crop " + text
+    for w, h in ((0, 1), (1, 0), (8192, 8192), (8193, 1), (1, 8193), (2**32 - 1, 2**32 - 1), (0, 0)):
+        yield "crop %d %d %s %s %s %s" % (w, h, zero, zero, one, one)
+        yield "crop %d %d %s %s %s %s" % (w, h, hex64(NAN), zero, one, one)
+        yield "fit %d %d 1 1 none" % (w, h)
+        yield "fit 1 1 %d %d %s %s" % (w, h, hex64(INF), zero)
+    for c in (NAN, INF, -INF, -0.0, 0.0, 1.0, TINY, -TINY, step(1.0, 1), 0.25):
+        yield "fit 2 1 1 1 %s %s" % (hex64(c), zero)
+        yield "fit 1 2 1 1 %s %s" % (one, hex64(c))
+        yield "fit 1 0 1 1 %s %s" % (one, hex64(c))
+    yield from ("fit 1 1 1 3 %s %s" % (one, one), "fit 8192 8191 8191 8192 none", "fit 4 6 2 3 none", "fit 8192 1 1 8192 %s %s" % (one, zero), "fit 3 7 7 3 none")
+    for _ in range(400):
+        yield crop(r)
+    for _ in range(250):
+        yield fit(r)
+    yield from ("filter lanczos3 0000000000000000", "filter box", "filter Box 0000000000000000", "crop 1 1 0 0 1 1", "fit 1 1 1 1", "fit 1 1 1 1 None",
+                "fit 1 1 1 1 %s" % one, "crop 4294967296 1 %s %s %s %s" % (zero, zero, one, one), "crop -1 1 %s %s %s %s" % (zero, zero, one, one), "")
+
+
+def built(kind, adapt, lines, out):
+    """A set as the builder makes it, for the normalisers: whole side, plain sums."""
+    scale = lines / out
+    fs = max(scale, 1.0) if adapt else 1.0
+    radius = SUPPORT[kind] * fs
+    window = 2 * math.ceil(radius) + 1
+    shape_of = {"box": lambda x: 1.0 if -0.5 < x <= 0.5 else 0.0, "bilinear": lambda x: max(0.0, 1 - abs(x)),
+                "catmullrom": lambda x: 1.5 * abs(x)**3 - 2.5 * x * x + 1 if abs(x) < 1 else -0.5 * abs(x)**3 + 2.5 * x * x - 4 * abs(x) + 2 if abs(x) < 2 else 0.0}
+    shape_of["mitchell"] = lambda x: (7 * abs(x)**3 - 12 * x * x) / 6 + 16 / 18 if abs(x) < 1 else (-7 * abs(x)**3 / 18 + 2 * x * x - 10 * abs(x) / 3 + 16 / 9) if abs(x) < 2 else 0.0
+    starts, sizes, slots = [], [], []
+    for i in range(out):
+        centre = (i + 0.5) * scale
+        a, b = max(0, math.floor(centre - radius)), min(lines, math.ceil(centre + radius))
+        ws = [shape_of[kind]((x + 0.5 - centre) / fs) for x in range(a, b)]
+        while len(ws) > 1 and ws[0] == 0:
+            ws, a = ws[1:], a + 1
+        while len(ws) > 1 and ws[-1] == 0:
+            ws = ws[:-1]
+        total = sum(ws)
+        starts.append(a)
+        sizes.append(len(ws))
+        slots += [w / total for w in ws] + [0.0] * (window - len(ws))
+    return window, slots, starts, sizes
+
+
+def normalizer(r):
+    for v in range(-645, 646):
+        yield "clip8 %d" % v
+    for v in (-(2**31), 2**31 - 1, -(2**31) + 1, 1151, -1152, 65535, 2**30, -(2**30)):
+        yield "clip8 %d" % v
+    def norm(lines, window, slots, starts, sizes, lent_to=None, names=("norm16", "norm32")):
+        for name in names:
+            room = window * len(starts) if lent_to is None else lent_to
+            yield "%s %d %d %s %s %s %d" % (name, lines, window, joined(slots, hex64), joined(starts), joined(sizes), room)
+    third = double(0x3FD5555555555555)
+    yield from norm(1, 1, [1.0], [0], [1])
+    yield from norm(3, 3, [third] * 3, [0], [3])
+    yield from norm(3, 3, [third] * 3, [0], [3], 8)
+    for one in ([-2.5, 1.0], [-3.0, 1.0], [1.0, -2.0], [-1.0, 1.0], [-2.0000000001, 1.0], [-1.99996948242187, 1.0], [0.0, 0.0], [-0.0, -1.0], [-1e-9, -1e300], [1e300, 1.0],
+                [-1e308, 2.0**-30], [-1e308, 1.0], [TINY, -TINY], [NAN, 1.0], [INF, 1.0], [-INF, 1.0], [1.0, NAN], [2047.96875, 0.0], [2048.0, 0.0], [1023.9, 0.0],
+                [1024.0, 0.0], [1023.984375, 0.0], [0.49999, 0.5], [double(0x7FEFFFFFFFFFFFFF), 0.0], [134217727.9, 0.0], [134217728.0, 0.0], [2.0**26, 0.0], [1.0, -1.0]):
+        yield from norm(2, 2, one, [0], [2])
+        yield from norm(2, 2, one, [0], [1])
+    for k in (15, 16, 17, 18, 31, 33, 46):  # the step of the precision: 2^limit just reached, or not, after rounding
+        for top in (2.0**15 - 0.5, 2.0**15 - 0.50001, 2.0**31 - 0.5, 2.0**31 - 0.75):
+            yield from norm(1, 1, [top * 2.0**-k], [0], [1])
+    yield from norm(4, 2, [0.5, 0.5, 0.9, 0.1], [0, 2], [2, 2])      # the second window has the largest
+    yield from norm(4, 2, [0.5, 7.0, 0.5, 0.5], [0, 2], [1, 2])      # the largest is not in use
+    yield from norm(4, 2, [0.5, NAN, 0.5, 0.5], [0, 2], [1, 2])
+    yield from norm(4, 3, [0.25, 0.75, 9.0, -9.0, 1.0, 2.0], [0, 1], [2, 1], 9)
+    for bad in ((0, 2, [1.0, 0.0], [0], [1]), (8193, 2, [1.0, 0.0], [0], [1]), (2, 0, [], [0], [1]), (2, 0, [1.0], [0], [1]), (2, 1, [], [], []), (2, 1, [1.0], [], []),
+                (2, 32769, [1.0], [0], [1]), (2, 32770, [1.0], [0], [1]), (2, 2**32 - 1, [1.0], [0], [1]), (2, 2, [1.0], [0], [1]), (2, 2, [1.0] * 3, [0], [1]),
+                (2, 2, [1.0] * 2, [0], [1, 1]), (2, 2, [1.0] * 4, [0, 0], [1]), (2, 2, [1.0] * 2, [0], [0]), (2, 2, [1.0] * 2, [0], [3]), (2, 2, [1.0] * 2, [1], [2]),
+                (2, 2, [1.0] * 2, [2], [1]), (2, 2, [1.0] * 2, [2**32 - 1], [1]), (2, 2, [1.0] * 2, [0], [2**32 - 1]), (2, 2, [NAN] * 2, [0], [3]), (2, 2, [INF] * 2, [0], [2])):
+        for room in (0, 1, 2, 5):
+            yield from norm(*bad, lent_to=room, names=("norm16", "norm32") if room == 2 else (r.choice(("norm16", "norm32")),))
+    for kind in KINDS:
+        for adapt, lines, out in ((1, 4, 2), (1, 3, 1), (0, 5, 2), (1, 2, 5), (1, 7, 3)):
+            window, slots, starts, sizes = built(kind, adapt, lines, out)
+            yield from norm(lines, window, slots, starts, sizes)
+    for _ in range(170):
+        yield normalize(r)
+    yield from ("norm16 1 1 3ff0000000000000 0 1", "norm32 1 1 3ff000000000000 0 1 1", "norm16 1 1 3ff0000000000000, 0 1 1", "norm16 1 1 3ff0000000000000 -1 1 1",
+                "norm16 1 1 3ff0000000000000 0 1 -", "norm64 1 1 3ff0000000000000 0 1 1", "clip8", "clip8 -", "clip8 2147483648", "clip8 -2147483649", "clip8 -0", "clip8 1 1", "")
+
+
+def build_group(r):
+    def of(kind, adapt, axis, w, h, out, numbers, slots=None, starts=None, sizes=None):
+        n = window_size(kind, adapt, numbers[axis], numbers[axis + 2], out) * out
+        slots, starts, sizes = n if slots is None else slots, out if starts is None else starts, out if sizes is None else sizes
+        return "build %s %d %d %d %d %d %s %d %d %d" % (kind, adapt, axis, w, h, out, " ".join(map(hex64, numbers)), slots, starts, sizes)
+    edge_of = step(1.0, -1)
+    for out in (1, 2, 5):
+        for kind in KINDS:
+            yield of(kind, 1, 0, 1, 1, out, (edge_of, 0.0, 2.0**-53, 1.0))
+    yield of("box", 0, 1, 1, 1, 1, (0.0, edge_of, 1.0, 2.0**-53), 9, 4, 3)
+    yield of("box", 1, 0, 1, 1, 2, (1 - 2.0**-52, 0.0, 2.0**-52, 1.0))
+    yield of("box", 1, 0, 8192, 1, 1, (8192 - 2.0**-40, 0.0, 2.0**-40, 1.0))
+    yield of("catmullrom", 1, 0, 2, 2, 2, (0.0, 0.0, 2.0, 2.0))
+    for kind in KINDS:
+        yield of(kind, 1, 0, 1, 1, 8, (0.0, 0.0, 5 * TINY, 1.0))
+    whole = (0.0, 0.0, 4.0, 4.0)
+    for out in (0, 1, 8192, 8193, 2**32 - 1):  # the output sides of 01's run rows, with little room
+        yield of("box", 0, 0, 4, 4, out, whole, 3, 1, 1)
+    for numbers in ((0.0, 0.0, TINY, 1.0), (0.5, 0.0, 2.0**-60, 1.0), (0.0, 0.0, -0.0, 1.0), (0.0, 0.0, 0.0, 1.0)):  # No. 6
+        for out in (1, 2):
+            yield of("bilinear", 1, 0, 1, 1, out, numbers, 6, 2, 2)
+    for numbers in ((NAN, 0.0, 1.0, 1.0), (0.0, 0.0, -1.0, 1.0), (0.0, -TINY, 1.0, 1.0), (0.0, 0.0, 1.0, 2.0), (0.0, 0.0, 2.0, 1.0)):  # the crop's own, either axis
+        for axis in (0, 1):
+            for out in (0, 2):
+                yield of("box", 1, axis, 1, 1, out, numbers, 6, 2, 2)
+    for sides in ((0, 1), (8193, 1), (1, 8193)):
+        yield of("box", 1, 0, *sides, 1, (0.0, 0.0, 1.0, 1.0), 3, 1, 1)
+    for slots, starts, sizes in ((5, 2, 2), (6, 1, 2), (6, 2, 1), (0, 0, 0), (7, 2, 2), (6, 3, 2), (6, 2, 3), (6, 2, 2)):  # No. 7, and room to spare
+        yield of("box", 1, 0, 4, 4, 2, whole, slots, starts, sizes)
+        yield of("box", 1, 0, 1, 1, 2, (edge_of, 0.0, 2.0**-53, 1.0), slots, starts, sizes)
+    for kind in KINDS:
+        for adapt in (0, 1):
+            for axis in (0, 1):
+                yield of(kind, adapt, axis, 7, 7, 3, (0.0, 0.0, 7.0, 7.0))
+                yield of(kind, adapt, axis, 5, 6, 4, (0.75, 1.25, 3.5, 4.125))
+                yield of(kind, adapt, axis, 9, 9, 2, (1e-300, 3.0, 2.0**-20, 6.0))
+            yield of(kind, adapt, 0, 3, 3, 7, (0.0, 0.0, 3.0, 3.0))
+            yield of(kind, adapt, 0, 4, 4, 4, (0.0, 0.0, 4.0, 4.0))
+            yield of(kind, adapt, 0, 8192, 8192, 3, (8192 - 9.3, 0.0, 9.3 - 2.0**-30, 8192.0))
+            yield of(kind, adapt, 1, 1, 8192, 2, (0.0, 4095.5, 1.0, 7.0))
+    for kind in KINDS:
+        yield of(kind, 0, 0, 8192, 8192, 5, (0.0, 0.0, 8192.0, 8192.0))
+    for _ in range(110):
+        line = build(r)
+        while len(line) > 400 or int(line.split()[-3]) > 60:
+            line = build(r)
+        yield line
+    yield of("mitchell", 1, 0, 100, 1, 1, (0.0, 0.0, 100.0, 1.0))
+    yield from ("build box 2 0 1 1 1 %s 3 1 1" % " ".join(map(hex64, (0.0, 0.0, 1.0, 1.0))), "build box 1 2 1 1 1 %s 3 1 1" % " ".join(map(hex64, (0.0, 0.0, 1.0, 1.0))),
+                "build lanczos3 1 0 1 1 1 %s 3 1 1" % " ".join(map(hex64, (0.0, 0.0, 1.0, 1.0))), "build", "")
+
+
+def passes(r):
+    def u16(lines, row, first, count, window, precision, weights, starts, sizes, samples, out=None):
+        out = len(starts) * count if out is None else out
+        return "u16pass %d %d %d %d %d %d %s %s %s %s %d" % (
+            lines, row, first, count, window, precision, joined(weights), joined(starts), joined(sizes), joined(samples), out)
+    def f32(lines, row, first, count, window, weights, starts, sizes, samples, out=None):
+        out = len(starts) * count if out is None else out
+        return "f32pass %d %d %d %d %d %s %s %s %s %d" % (lines, row, first, count, window, joined(weights, hex64), joined(starts), joined(sizes),
+                                                          joined(samples, lambda s: "%08x" % s), out)
+    sharp = (3, 1, 0, 1, 3, 4, [-4, 24, -4], [0], [3])
+    for samples in ((100, 200, 100), (65535, 0, 65535), (0, 65535, 0)):
+        yield u16(*sharp, samples)
+    for samples in ((1, 0), (0, 1), (1, 1)):
+        yield u16(2, 1, 0, 1, 2, 4, [8, 8], [0], [2], samples)
+    for row in (1, 15, 16, 17, 33):  # around the chunk
+        for first, count in ((0, row), (0, 0), (row, 0), (row - 1, 1), (0, row - 1), (1 % row, row - 1 - 1 % row if row > 1 else 0)):
+            samples = [r.randint(0, 65535) for _ in range(2 * row)]
+            yield u16(2, row, first, count, 2, 14, [12000, 4384, -3000, 19384], [0, 0], [2, 2], samples)
+            samples = [finite_single(r) for _ in range(2 * row)]
+            yield f32(2, row, first, count, 2, [0.75, 0.25, -0.5, 1.5], [0, 0], [2, 2], samples)
+    samples16 = [r.randint(0, 65535) for _ in range(15)]
+    samples32 = [single_bits(r.uniform(-9, 9)) for _ in range(15)]
+    for first in range(6):  # every offset of a small frame
+        for count in range(6 - first):
+            yield u16(3, 5, first, count, 2, 10, [500, 524, 1024, 7], [1, 0], [2, 1], samples16)
+            yield f32(3, 5, first, count, 2, [0.3, 0.7, 1.0, NAN], [1, 0], [2, 1], samples32)
+    top, low = 2**31 - 1, -(2**31)
+    for precision in (4, 5, 14, 30, 31, 44, 45):  # the type's ends and the largest sums
+        for weights in ([top] * 4, [low] * 4, [top, low, top, low], [1, 0, 0, 0], [-1, 0, 0, 0], [2**30, 2**30, -1, 0], [0, 0, 0, 0]):
+            for samples in ([65535] * 4, [1, 2, 3, 65535]):
+                yield u16(4, 1, 0, 1, 4, precision, weights, [0], [4], samples)
+    for precision in (0, 3, 4, 45, 46, 2**32 - 1):
+        yield u16(1, 1, 0, 1, 1, precision, [16], [0], [1], [9])
+    n = 300  # a long window
+    yield u16(n, 1, 0, 1, n, 45, [top] * n, [0], [n], [65535] * n)
+    yield u16(n, 1, 0, 1, n, 4, [low] * n, [0], [n], [65535] * n)
+    big, inf = 0x7F7FFFFF, 0x7F800000
+    for weights, samples in (([1.0, 1.0], [big, big]), ([2.0**64, 2.0**64], [big, big]), ([-(2.0**64), 0.0], [big, big]), ([0.5, 0.0], [1, 0]), ([-0.5, 0.0], [1, 0]),
+                             ([-0.25, 0.0], [1, 0]), ([-0.75, 0.0], [1, 0]), ([0.5, 0.0], [3, 0]), ([0.5, 0.0], [5, 0]), ([-0.0, -0.0], [0x3F800000] * 2),
+                             ([1.0, -1.0], [0x3F800000] * 2), ([TINY, 0.0], [1, 1]), ([-TINY, 0.0], [big, 1]), ([1.0, 2.0**-24], [0x3F800000] * 2),
+                             ([1.0, 3 * 2.0**-24], [0x3F800000] * 2), ([1.0, 2.0**-25], [big, 0x73800000]), ([1.0, 2.0**-25], [big, 0x737FFFFF]), ([1.0, 1.0], [0x80000000] * 2),
+                             ([1e-10, -1e-10], [big, 1]), ([2.0**-126, 0.0], [0x3F800000] * 2), ([2.0**-149, 0.0], [0x3FC00000, 0]), ([2.0**-150, 0.0], [0x3F800001, 0]),
+                             ([step(2.0**64, 1), 0.0], [1, 1]), ([0.0, -step(2.0**64, 1)], [1, 1]), ([INF, 0.0], [1, 1]), ([0.0, NAN], [1, 1]), ([1.0, 1.0], [inf, 0]),
+                             ([1.0, 1.0], [0, 0xFF800000]), ([0.0, 1.0], [0x7FC00000, 0]), ([1e300, 0.0], [0, 0])):
+        yield f32(2, 1, 0, 1, 2, weights, [0], [2], samples)
+        yield f32(2, 1, 0, 1, 2, weights, [0], [1], samples)
+        yield f32(2, 1, 0, 0, 2, weights, [0], [2], samples)
+    yield f32(3, 1, 0, 1, 3, [1e16, 1.0, -1e16], [0], [3], [0x3F800000] * 3)   # line order
+    yield f32(3, 1, 0, 1, 3, [-1e16, 1.0, 1e16], [0], [3], [0x3F800000] * 3)
+    yield f32(2, 3, 1, 1, 1, [1.0], [0], [1], [inf, 0x3F800000, inf, inf, inf, inf])  # samples not in use
+    good = (3, 2, 0, 2, 2, 14, [1] * 4, [0, 1], [2, 2], [7] * 6, 4)
+    places = {0: (0, 8193, 2, 4), 1: (0, 32769, 1, 3), 2: (1, 2**32 - 1), 3: (1, 3, 2**32 - 1), 4: (0, 1, 3, 32769, 32770, 2**32 - 1), 6: ([1] * 3, [1] * 5, []),
+              7: ([0], [], [0, 2], [0, 2**32 - 1]), 8: ([2], [], [2, 0], [2, 3], [2, 2**32 - 1], [2, 1]), 9: ([7] * 5, [7] * 7, []), 10: (0, 3, 5)}
+    yield u16(*good)
+    for place, values in places.items():
+        for v in values:
+            one = list(good)
+            one[place] = v
+            yield u16(*one)
+            del one[5]
+            one[5] = [float(k) for k in one[5]]
+            yield f32(*one)
+    for _ in range(50):
+        yield u16pass(r)
+        yield f32pass(r)
+    yield from ("u16pass 1 1 0 1 1 4 16 0 1 65536 1", "u16pass 1 1 0 1 1 4 2147483648 0 1 1 1", "u16pass 1 1 0 1 1 4 16 0 1 1", "f32pass 1 1 0 1 1 3ff0000000000000 0 1 3ff0000000000000 1",
+                "f32pass 1 1 0 1 1 3ff0000000000000 0 1 3f800000 1 1", "u16pass 1 1 0 1 1 4 16 0 1 -1 1", "")
+
+
+def sheet_group(r):
+    def of(kind, lines, window, store, precision, weights, starts, sizes, room):
+        return "sheet %s %d %d %d %d %s %s %s %d" % (kind, lines, window, store, precision, joined(weights), joined(starts), joined(sizes), room)
+    half = 2**30
+    example = [half, half, 0, half, half, 0]
+    for room in (0, 1, 108, 109, 110, 140):
+        yield of("box", 4, 3, 32, 31, example, [0, 2], [2, 2], room)
+    for kind in KINDS:
+        yield of(kind, 1, 1, 16, 14, [16384], [0], [1], 90)
+    for store, top in ((16, 2**15), (32, 2**31)):
+        yield of("mitchell", 8192, 4, store, 21, [top - 1, -top, -1, 10], [8188], [4], 140)
+        for precision in (0, 3, 4, 21, 22, 45, 46, 2**32 - 1):
+            yield of("bilinear", 2, 2, store, precision, [9, -10], [0], [2], 100)
+    many = 12
+    yield of("catmullrom", 12, 1, 32, 30, list(range(many)), list(range(many)), [1] * many, 300)
+    for bad in ((0, 2, [1, 2], [0], [2]), (8193, 2, [1, 2], [0], [2]), (2, 0, [], [0], [1]), (2, 32769, [1], [0], [1]), (2, 32770, [1], [0], [1]), (2, 2, [1], [0], [1]),
+                (2, 2, [1, 2, 3], [0], [1]), (2, 2, [1, 2], [], []), (2, 2, [1, 2], [0], []), (2, 2, [1, 2], [0], [0]), (2, 2, [1, 2], [0], [3]), (2, 2, [1, 2], [1], [2]),
+                (2, 2, [1, 2], [2**32 - 1], [1]), (2, 2, [1, 2], [0], [1, 1])):
+        yield of("box", bad[0], bad[1], r.choice((16, 32)), 14, *bad[2:], 8)
+    for _ in range(90):
+        line = sheet(r)
+        while len(line) > 300:
+            line = sheet(r)
+        yield line
+    yield from ("sheet box 1 1 16 14 32768 0 1 99", "sheet box 1 1 64 14 1 0 1 99", "sheet lanczos3 1 1 16 14 1 0 1 99", "sheet box 1 1 16 14 1 0 1", "sheet box 1 1 16 14 -32769 0 1 9", "")
+
+
+GROUPS = {"numbers": numbers, "alpha": alpha_group, "crop": crop_group, "normalizer": normalizer, "build": build_group, "passes": passes, "sheet": sheet_group}
+
+
+def answers(oracle, lines):
+    done = subprocess.run([oracle], input="".join(l + "\n" for l in lines).encode(), stdout=subprocess.PIPE, check=True)
+    return done.stdout.decode().split("\n")[:-1]
+
+
+def main():
+    if len(sys.argv) < 4:
+        sys.exit(__doc__)
+    oracle, vectors, folder = sys.argv[1:4]
+    for name in sys.argv[4:] or GROUPS:
+        if name not in GROUPS:
+            sys.exit("no group %s; there are %s" % (name, ", ".join(GROUPS)))
+        lines = list(dict.fromkeys(GROUPS[name](random.Random(SEED))))
+        stored = answers(oracle, lines)
+        if name == "numbers":
+            theirs = list(testfloat(vectors))
+            ours = answers(oracle, [q for q, _ in theirs])
+            wrong = [(q, a, b) for (q, a), b in zip(theirs, ours) if a != b]
+            if wrong:
+                sys.exit("the oracle differs from SoftFloat: %s" % wrong[:5])
+            lines, stored = [q for q, _ in theirs] + lines, [a for _, a in theirs] + stored
+        for ending, texts in (("in", lines), ("out", stored)):
+            with open("%s/%s.%s" % (folder, name, ending), "w", newline="\n") as f:
+                f.write("".join(t + "\n" for t in texts))
+        size = sum(len(t.encode()) + 1 for t in lines + stored)
+        print("group=%s requests=%d bytes=%d longest=%d" % (name, len(lines), size, max(map(len, lines))))
+
+
+if __name__ == "__main__":
+    main()
