@@ -1,0 +1,25 @@
+// The program `ask`: requests from standard input, an answer a line (docs/PROTOCOL.md). One more group of requests is one more
+// crate and one more arm of `by_group`.
+mod buffer;
+mod input;
+
+use asking::Words;
+use asking::emit;
+pub use input::run;
+
+// One line's answer, with its newline.
+pub(crate) fn answer(line: &[u8], n: usize, out: &mut [u8]) -> usize {
+    if line.len() == 0 {
+        return emit::byte(b'\n', n, out);
+    }
+    let w = asking::split(line);
+    let p = by_group(line, w, n, out);
+    emit::byte(b'\n', p, out)
+}
+
+fn by_group(line: &[u8], w: Words, n: usize, out: &mut [u8]) -> usize {
+    if ask_numbers::knows(line, w) {
+        return ask_numbers::answer(line, w, n, out);
+    }
+    emit::bad(n, out)
+}

@@ -1,0 +1,103 @@
+// Signed numbers of a line: read as a code, 2 x for x and 2 x + 1 for -(x + 1), so that no signed arithmetic is needed but -1 - y.
+use crate::digits;
+use crate::digits::Num;
+
+// The part as a signed number from -(most + 1) to most, as its code.
+pub(crate) fn code(s: &[u8], a: usize, e: usize, most: u64) -> Num {
+    if s.len() < e {
+        return Num::Bad;
+    }
+    if e <= a {
+        return Num::Bad;
+    }
+    if 0xffff_ffff < most {
+        return Num::Bad;
+    }
+    if s[a] == b'-' {
+        return negative(digits::decimal(s, a + 1, e, most + 1));
+    }
+    positive(digits::decimal(s, a, e, most))
+}
+
+fn negative(size: Num) -> Num {
+    let Num::Is(x) = size else {
+        return Num::Bad;
+    };
+    if x == 0 {
+        return Num::Is(0);
+    }
+    if 0xffff_ffff < x {
+        return Num::Bad;
+    }
+    Num::Is((x - 1) * 2 + 1)
+}
+
+fn positive(size: Num) -> Num {
+    let Num::Is(x) = size else {
+        return Num::Bad;
+    };
+    if 0xffff_ffff < x {
+        return Num::Bad;
+    }
+    Num::Is(x * 2)
+}
+
+// The i32 of a code of `code`.
+pub(crate) fn to_i32(code: u64) -> i32 {
+    if code % 2 == 0 {
+        return pos32(code / 2);
+    }
+    neg32(code / 2)
+}
+
+// The i16 of a code of `code`.
+pub(crate) fn to_i16(code: u64) -> i16 {
+    if code % 2 == 0 {
+        return pos16(code / 2);
+    }
+    neg16(code / 2)
+}
+
+pub(crate) fn pos32(x: u64) -> i32 {
+    if 2147483647 < x {
+        return 0;
+    }
+    x as i32
+}
+
+pub(crate) fn pos16(x: u64) -> i16 {
+    if 32767 < x {
+        return 0;
+    }
+    x as i16
+}
+
+// -(x + 1)
+fn neg32(x: u64) -> i32 {
+    if 2147483647 < x {
+        return 0;
+    }
+    let y = x as i32;
+    -1 - y
+}
+
+// -(x + 1)
+fn neg16(x: u64) -> i16 {
+    if 32767 < x {
+        return 0;
+    }
+    let y = x as i16;
+    -1 - y
+}
+
+// The size of an i32.
+pub(crate) fn size(v: i32) -> u64 {
+    if v < 0 {
+        return ((-1 - v) as u64) + 1;
+    }
+    v as u64
+}
+
+pub(crate) fn from_i16(x: i16) -> i32 {
+    x as i32
+}

@@ -1,0 +1,48 @@
+-- The proof of `FlatFrame`: a pass that did not refuse has all its windows inside the frame, so every sample in use is v, and `flat-unchanged` gives each value.
+-- Assumes nothing.
+use mathlib.Core.Path.{_≡_, refl}
+use mathlib.Core.List.{List}
+use Prim.Native.Nat.{ℕ, _+_, _*_, _/_, _%_, _≤_, _<_}
+use native.Mathlib.Nat.{zero-add, mod-lt, div-lt-iff-lt-mul}
+use native.Mathlib.Omega.{arith}
+use lib.Arith.{digits-lt}
+use lib.IntN.{ℤ, pos}
+use lib.ListN.{length, getD}
+use Rattle.lists.specs.Tab.{tab, grid}
+use Rattle.lists.proofs.TabLaws.{tab-ext}
+use Rattle.integers.proofs.Sums.{total-ext}
+use Rattle.windows.specs.Set.{Set, windows, start, size, weight, sample}
+use Rattle.windows.proofs.Fits.{Within, not-outside}
+use Rattle.vertical.specs.declared.Passed.the-variants.{Done}
+use Rattle.vertical.specs.Frame.{frame}
+use Rattle.vertical.specs.U16.{passed16, written16, valueAt}
+use Rattle.vertical.proofs.Answers.{Tests16, tests16, Shaped, shaped}
+use Rattle.vertical.proofs.Columns.{some-column}
+use Rattle.promises.specs.FlatFrames.{NearOne, Flat, FlatFrame}
+use Rattle.promises.proofs.Frames.{flat-unchanged}
+
+pub flat-frame : FlatFrame
+unfolding written16
+flat-frame s src row first count old v done top flat near =
+    rw done
+    (tab-ext 0 (windows s * count) (grid count (λ i j. valueAt 65535 s (frame 0 src row) i (first + j))) (λ k. v)
+    (λ k h.
+    let some = some-column (windows s) count k h in
+    rw zero-add (here (k / count) (k % count) (div-lt-iff-lt-mul some .1 h) (mod-lt k some))))
+  where
+    tests : Tests16 s src row first count (length old)
+    tests = tests16 s src row first count (length old) done
+
+    fits : Shaped s (length src) row first count (length old)
+    fits = shaped s (length src) row first count (length old) (tests .size) (tests .shape)
+
+    exact : Within 4 45 (s .precision)
+    exact = not-outside 4 45 (s .precision) (tests .precision)
+
+    here : (i j : ℕ) → i < windows s → j < count → valueAt 65535 s (frame 0 src row) i (first + j) ≡ v
+    here i j hi hj =
+        let inside = fits .set .each i hi in
+        let at : (k : ℕ) → k < size s i → sample s (frame 0 src row) i (first + j) k ≡ v =
+        λ k l. flat ((start s i + k) * row + (first + j)) (rw (fits .whole) (digits-lt (omega (arith, inside .ends)) (omega (arith, fits .fit)))) in
+        rw (total-ext (weight s (pos 0) i) (weight s (pos 0) i) (sample s (frame 0 src row) i (first + j)) (λ k. v) (size s i) (λ k l. refl) at)
+        (flat-unchanged (weight s (pos 0) i) (size s i) 65535 (s .precision) v (omega (arith, exact .least)) (near i hi) top)

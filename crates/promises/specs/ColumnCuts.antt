@@ -1,0 +1,29 @@
+-- "A range of columns computed alone equals those columns of the whole frame."
+-- Two units cut the columns differently and compare: wherever the pass over the whole frame does not refuse, the pass over any range of its columns does not refuse
+-- either, and what it writes is those columns of the whole, for both passes. Statements only. Assumes nothing.
+use mathlib.Core.Path.{_≡_}
+use mathlib.Core.List.{List}
+use Prim.Native.Nat.{ℕ, _+_, _*_, _≤_}
+use lib.IntN.{ℤ}
+use lib.Ieee.{Float, nan}
+use lib.ListN.{length}
+use Rattle.windows.specs.Set.{Set, windows}
+use Rattle.vertical.specs.declared.Passed.the-variants.{Done}
+use Rattle.vertical.specs.Frame.{columns}
+use Rattle.vertical.specs.U16.{passed16, written16}
+use Rattle.vertical.specs.F32.{passed32, written32}
+
+-- `whole` is lent to the pass over the whole row, `list` to the pass over the range
+abbrev pub ColumnsCutU16 : Type 0
+ColumnsCutU16 =
+    (s : Set ℤ) (src : List ℕ) (row : ℕ) (whole : List ℕ) → passed16 s src row 0 row (length whole) ≡ Done
+    → (first count : ℕ) (list : List ℕ) → first + count ≤ row → length list ≡ windows s * count
+    → (passed16 s src row first count (length list) ≡ Done)
+    × (written16 s src row first count list ≡ columns 0 row (windows s) first count (written16 s src row 0 row whole))
+
+abbrev pub ColumnsCutF32 : Type 0
+ColumnsCutF32 =
+    (s : Set Float) (src : List Float) (row : ℕ) (whole : List Float) → passed32 s src row 0 row (length whole) ≡ Done
+    → (first count : ℕ) (list : List Float) → first + count ≤ row → length list ≡ windows s * count
+    → (passed32 s src row first count (length list) ≡ Done)
+    × (written32 s src row first count list ≡ columns nan row (windows s) first count (written32 s src row 0 row whole))

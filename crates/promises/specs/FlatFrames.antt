@@ -1,0 +1,33 @@
+-- "A flat frame comes out unchanged."
+-- Where the weights of a window add up to K, and 2 M times the distance of K from 2^P is under 2^P, a frame that holds one value v up to M everywhere gives v there.
+-- M is the largest sample: for 16-bit samples 2 M is 131070. The premise is the customer's. Statements only. Assumes nothing.
+use mathlib.Core.Path.{_≡_}
+use mathlib.Core.List.{List}
+use Prim.Native.Nat.{ℕ, _*_, _^_, _≤_, _<_}
+use lib.IntN.{ℤ, pos}
+use lib.ListN.{length, getD}
+use Rattle.lists.specs.Tab.{tab}
+use Rattle.integers.specs.Sums.{sum, distance, value}
+use Rattle.windows.specs.Set.{Set, windows, size, weight}
+use Rattle.vertical.specs.declared.Passed.the-variants.{Done}
+use Rattle.vertical.specs.U16.{passed16, written16}
+
+-- at one window: w are the weights of its n lines, K is their sum
+abbrev pub FlatUnchanged : Type 0
+FlatUnchanged =
+    (w : ℕ → ℤ) (n M P v : ℕ) → 1 ≤ P → 2 * M * distance (sum w n) (pos (2 ^ P)) < 2 ^ P → v ≤ M → value M P w (λ k. v) n ≡ v
+
+-- the premise for 16-bit samples, of window i of a set
+abbrev pub NearOne : Set ℤ → ℕ → Type 0
+NearOne s i = 131070 * distance (sum (weight s (pos 0) i) (size s i)) (pos (2 ^ s .precision)) < 2 ^ s .precision
+
+-- every sample of the frame is v
+abbrev pub Flat : ℕ → List ℕ → Type 0
+Flat v src = (x : ℕ) → x < length src → getD src x 0 ≡ v
+
+-- the frame that the u16 pass writes, wherever it does not refuse: v in every place
+abbrev pub FlatFrame : Type 0
+FlatFrame =
+    (s : Set ℤ) (src : List ℕ) (row first count : ℕ) (old : List ℕ) (v : ℕ)
+    → passed16 s src row first count (length old) ≡ Done → v ≤ 65535 → Flat v src → ((i : ℕ) → i < windows s → NearOne s i)
+    → written16 s src row first count old ≡ tab 0 (windows s * count) (λ k. v)

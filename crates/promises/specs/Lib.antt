@@ -1,0 +1,3 @@
+pub mod SumOfFrames
+pub mod FlatFrames
+pub mod ColumnCuts
