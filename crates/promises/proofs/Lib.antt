@@ -4,8 +4,7 @@ pub mod BoxWindow
 pub mod BoxLines
 pub mod BoxPlan
 pub mod BoxSet
-pub mod BoxPrecision
-pub mod BoxPremise
 pub mod Frames
 pub mod FlatFrame
 pub mod ColumnCuts
+pub mod Restated

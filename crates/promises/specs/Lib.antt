@@ -1,4 +1,5 @@
 pub mod SumOfFrames
 pub mod FlatFrames
 pub mod ColumnCuts
-pub mod BoxKeepsFlat
+pub mod AlphaSteps
+pub mod ClipRule
