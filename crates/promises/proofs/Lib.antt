@@ -1,10 +1,13 @@
+pub mod Frames
+pub mod FlatFrame
 pub mod Box
 pub mod BoxFilter
 pub mod BoxWindow
 pub mod BoxLines
 pub mod BoxPlan
 pub mod BoxSet
-pub mod Frames
-pub mod FlatFrame
+pub mod BoxPrecision
+pub mod BoxPremise
 pub mod ColumnCuts
 pub mod Restated
+pub mod Table
