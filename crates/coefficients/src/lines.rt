@@ -53,25 +53,25 @@ fn one_window(p: Plan, line: DisplayLine, row: &mut [f64]) -> Span
     }
 }
 
-// The first n slots set to +0.
-fn zero_weights(n: usize, out: &mut [f64])
-    requires { ⌜ n ≤ length (now out) ⌝ }
-    ensures written { λ _. ⌜ now (out .exit) ≡ front n zeroWeight (now (out .entry)) ⌝ }
+// The first `count` slots set to +0.
+fn zero_weights(count: usize, out: &mut [f64])
+    requires { ⌜ count ≤ length (now out) ⌝ }
+    ensures written { λ _. ⌜ now (out .exit) ≡ front count zeroWeight (now (out .entry)) ⌝ }
 {
     let mut k: usize = 0;
-    while k < n {
+    while k < count {
         out[k] = 0.0;
         k += 1;
     }
 }
 
-// The first n starts or sizes set to 0.
-fn zero_lines(n: usize, out: &mut [u32])
-    requires { ⌜ n ≤ length (now out) ⌝ }
-    ensures written { λ _. ⌜ now (out .exit) ≡ front n zeroLine (now (out .entry)) ⌝ }
+// The first `count` starts or sizes set to 0.
+fn zero_lines(count: usize, out: &mut [u32])
+    requires { ⌜ count ≤ length (now out) ⌝ }
+    ensures written { λ _. ⌜ now (out .exit) ≡ front count zeroLine (now (out .entry)) ⌝ }
 {
     let mut k: usize = 0;
-    while k < n {
+    while k < count {
         out[k] = 0;
         k += 1;
     }

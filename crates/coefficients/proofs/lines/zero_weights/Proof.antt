@@ -9,10 +9,10 @@ use borrow.Author.Needs.{needs}
 use native.Mathlib.Omega.{arith}
 
 abbrev Inv-loop : tie.InvT-loop
-Inv-loop n out₀ k₀ out k = (k ≤ n) × Written k zeroWeight out₀ out
+Inv-loop count out₀ k₀ out k = (k ≤ count) × Written k zeroWeight out₀ out
 
 abbrev μ-loop : tie.MeasureT-loop
-μ-loop n out₀ k₀ out k = n - k
+μ-loop count out₀ k₀ out k = count - k
 
 loop-holds : tie.Need-loop-holds Inv-loop μ-loop
 loop-holds c = (omega arith, written-none)
@@ -37,7 +37,7 @@ same-length c = search needs
 
 returns : tie.Need-returns Inv-loop μ-loop
 returns c =
-    let all : c .before .loop .k ≡ c .before .before .args .n = omega arith in
+    let all : c .before .loop .k ≡ c .before .before .args .count = omega arith in
     rw (← all) (c .before .loop .inv .1 .is)
 
 pub zero-weights-spec : {M : Type 1} → statement M
