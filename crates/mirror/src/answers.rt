@@ -4,12 +4,14 @@ ghost use Rattle.alpha.specs.Lists.{numberOf as numberOfApplied};
 ghost use Rattle.crop_box.specs.Crop.{numberOf as numberOfCropped};
 ghost use Rattle.crop_box.specs.Fit.{numberOf as numberOfFitted, boxOf};
 ghost use Rattle.coefficients.specs.Answer.{numberOf as numberOfBuilt, lineOf, windowOf};
+ghost use Rattle.normalizer.specs.Answer.{numberOf as numberOfNormalized, precisionIn};
 ghost use Rattle.vertical.specs.Passed.{numberOf as numberOfPassed};
 use alpha::Applied;
 use coefficients::Built;
 use crop_box::CropBox;
 use crop_box::Cropped;
 use crop_box::Fitted;
+use normalizer::Normalized;
 use vertical::Passed;
 
 pub(crate) fn applied_number(answer: Applied) -> u32
@@ -83,6 +85,25 @@ pub(crate) fn blank_line(answer: Built) -> u32
         Built::Done(_) => 0,
         Built::Blank(line) => line.0,
         Built::Refused(_) => 0,
+    }
+}
+
+pub(crate) fn normalized_number(answer: Normalized) -> u32
+    ensures answer { λ r. ⌜ r ≡ numberOfNormalized answer ⌝ }
+{
+    match answer {
+        Normalized::Done(_) => 0,
+        Normalized::Refused(refusal) => refusal::number(refusal),
+    }
+}
+
+// The precision of a normalised set.
+pub(crate) fn normalized_precision(answer: Normalized) -> u32
+    ensures answer { λ r. ⌜ r ≡ precisionIn answer ⌝ }
+{
+    match answer {
+        Normalized::Done(precision) => precision,
+        Normalized::Refused(_) => 0,
     }
 }
 

@@ -7,3 +7,4 @@ mod helpers;
 mod passes;
 mod pixels;
 mod sets;
+mod stores;

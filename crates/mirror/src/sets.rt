@@ -1,4 +1,4 @@
-// Weight sets: the builder and the two normalisers.
+// The weight builder.
 ghost use mathlib.Core.Path.{_≡_};
 ghost use mathlib.Core.Bool.{cond};
 ghost use lib.ListN.{length};

@@ -1,7 +1,8 @@
+-- `fitted_box`: case by case; the code's zeros are the definition's once their patterns are read. Assumes nothing.
 use mathlib.Core.Path.{sym, ap}
 use lib.Ieee.{ofBits}
-use Rattle.crop_box.specs.Fit.{boxOf}
 use borrow.Author.Needs.{needs}
+use Rattle.crop_box.specs.Fit.{boxOf}
 use Rattle.mirror.proofs.answers.fitted_box.Statement.{statement}
 use Rattle.mirror.proofs.answers.fitted_box.Tie as tie
 

@@ -1,6 +1,7 @@
+-- `centring_named`: each way out is one arm of `centringOf`. Assumes nothing.
+use borrow.Author.Tests.{eq-eqb, ne-eqb}
 use Rattle.mirror.proofs.codes.centring_named.Statement.{statement}
 use Rattle.mirror.proofs.codes.centring_named.Tie as tie
-use borrow.Author.Tests.{eq-eqb, ne-eqb}
 
 returns : tie.Need-returns
 returns c = rw (eq-eqb _ _ (c .if1 .taken))

@@ -1,8 +1,9 @@
+-- `mirror_crop`: the number of what `crop` gives. Assumes nothing.
+use mathlib.Core.Path.{_∙_, ap}
 use borrow.Author.Needs.{needs}
+use Rattle.crop_box.specs.Crop.{numberOf}
 use Rattle.mirror.proofs.crops.mirror_crop.Statement.{statement}
 use Rattle.mirror.proofs.crops.mirror_crop.Tie as tie
-use mathlib.Core.Path.{_∙_, ap}
-use Rattle.crop_box.specs.Crop.{numberOf}
 
 crop-requires : tie.Need-crop-requires
 crop-requires c κs = search needs

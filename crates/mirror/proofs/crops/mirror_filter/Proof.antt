@@ -1,10 +1,10 @@
+-- `mirror_filter`: a code above 3 takes the first arm; else the code's filter is named, and its weight is the library's. Assumes nothing.
+use mathlib.Core.Path.{refl}
 use borrow.Author.Needs.{needs}
+use borrow.Author.Tests.{lt-ltb, le-ltb}
+use Rattle.mirror.specs.Codes.{filterNumber, filterWeight}
 use Rattle.mirror.proofs.crops.mirror_filter.Statement.{statement}
 use Rattle.mirror.proofs.crops.mirror_filter.Tie as tie
-use mathlib.Core.Path.{_∙_, ap, refl}
-use Rattle.filters.specs.Filters.{valueOf}
-use Rattle.mirror.specs.Codes.{filterNumber, filterWeight}
-use borrow.Author.Tests.{lt-ltb, le-ltb}
 
 returns : tie.Need-returns
 unfolding filterNumber filterWeight

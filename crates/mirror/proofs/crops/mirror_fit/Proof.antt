@@ -1,11 +1,12 @@
-use borrow.Author.Needs.{needs}
-use Rattle.mirror.proofs.crops.mirror_fit.Statement.{statement}
-use Rattle.mirror.proofs.crops.mirror_fit.Tie as tie
+-- `mirror_fit`: a flag above 1 takes the first arm; else the centring is named, and answer and box are the library's. Assumes nothing.
 use mathlib.Core.Path.{_∙_, ap, refl}
+use borrow.Author.Needs.{needs}
+use borrow.Author.Tests.{lt-ltb, le-ltb}
 use Rattle.crop_box.specs.declared.CropBox.{CropBox}
 use Rattle.crop_box.specs.Fit.{numberOf, boxOf}
 use Rattle.mirror.specs.Codes.{fitNumber, fitBox}
-use borrow.Author.Tests.{lt-ltb, le-ltb}
+use Rattle.mirror.proofs.crops.mirror_fit.Statement.{statement}
+use Rattle.mirror.proofs.crops.mirror_fit.Tie as tie
 
 returns : tie.Need-returns
 unfolding fitNumber fitBox

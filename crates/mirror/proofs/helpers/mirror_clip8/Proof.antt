@@ -1,9 +1,10 @@
-use borrow.Author.Needs.{needs}
-use Rattle.mirror.proofs.helpers.mirror_clip8.Statement.{statement}
-use Rattle.mirror.proofs.helpers.mirror_clip8.Tie as tie
+-- `mirror_clip8`: the library's contract, the value read back from its bits. Assumes nothing.
 use mathlib.Core.Path.{_∙_, ap}
 use mir.Facts.{toZ-ofZ}
+use borrow.Author.Needs.{needs}
 use Rattle.integers.specs.Sums.{clipped}
+use Rattle.mirror.proofs.helpers.mirror_clip8.Statement.{statement}
+use Rattle.mirror.proofs.helpers.mirror_clip8.Tie as tie
 
 clip8-requires : tie.Need-clip8-requires
 clip8-requires c κs = search needs

@@ -1,8 +1,9 @@
+-- `mirror_vertical_u16`: the number of the pass's answer, and its output. Assumes nothing.
+use mathlib.Core.Path.{_∙_, ap}
 use borrow.Author.Needs.{needs}
+use Rattle.vertical.specs.Passed.{numberOf}
 use Rattle.mirror.proofs.passes.mirror_vertical_u16.Statement.{statement}
 use Rattle.mirror.proofs.passes.mirror_vertical_u16.Tie as tie
-use mathlib.Core.Path.{_∙_, ap}
-use Rattle.vertical.specs.Passed.{numberOf}
 
 vert-convolution-u16-requires : tie.Need-vert-convolution-u16-requires
 vert-convolution-u16-requires c κs = search needs

@@ -1,8 +1,9 @@
+-- `mirror_divide_u8x4`: the number of the library's answer, and its list. Assumes nothing.
+use mathlib.Core.Path.{_∙_, ap}
 use borrow.Author.Needs.{needs}
+use Rattle.alpha.specs.Lists.{numberOf}
 use Rattle.mirror.proofs.pixels.mirror_divide_u8x4.Statement.{statement}
 use Rattle.mirror.proofs.pixels.mirror_divide_u8x4.Tie as tie
-use mathlib.Core.Path.{_∙_, ap}
-use Rattle.alpha.specs.Lists.{numberOf}
 
 divide-alpha-requires : tie.Need-divide-alpha-requires
 divide-alpha-requires c κs = search needs

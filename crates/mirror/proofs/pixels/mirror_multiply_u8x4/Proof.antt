@@ -1,8 +1,9 @@
+-- `mirror_multiply_u8x4`: the number of the library's answer, and its list. Assumes nothing.
+use mathlib.Core.Path.{_∙_, ap}
 use borrow.Author.Needs.{needs}
+use Rattle.alpha.specs.Lists.{numberOf}
 use Rattle.mirror.proofs.pixels.mirror_multiply_u8x4.Statement.{statement}
 use Rattle.mirror.proofs.pixels.mirror_multiply_u8x4.Tie as tie
-use mathlib.Core.Path.{_∙_, ap}
-use Rattle.alpha.specs.Lists.{numberOf}
 
 multiply-alpha-requires : tie.Need-multiply-alpha-requires
 multiply-alpha-requires c κs = search needs

@@ -1,8 +1,10 @@
+-- `mirror_weights`: a code that names nothing takes the first arm of all six equations; else axis and filter are named, and the five values are those of
+-- `build`, read through the answer's number, window and line. Assumes nothing.
+use mathlib.Core.Path.{_∙_, ap, refl}
 use borrow.Author.Needs.{needs}
+use Rattle.coefficients.specs.Answer.{numberOf, windowOf, lineOf}
 use Rattle.mirror.proofs.sets.mirror_weights.Statement.{statement}
 use Rattle.mirror.proofs.sets.mirror_weights.Tie as tie
-use mathlib.Core.Path.{_∙_, ap, refl}
-use Rattle.coefficients.specs.Answer.{numberOf, windowOf, lineOf}
 
 returns : tie.Need-returns
 returns c = simp (c .if1 .taken) (refl, (refl, (refl, (refl, (refl, refl)))))
