@@ -97,9 +97,9 @@ static void alpha(const char *name, int port, int runs)
 /* A whole side, adapting, by filter and sides: 4, 8 and 16 lines a window. */
 static void shape(int taps, uint32_t *kind, uint32_t *side, uint32_t *out)
 {
-    *kind = taps == 8 ? MIRROR_CATMULLROM : MIRROR_BILINEAR;
+    *kind = taps == 4 ? MIRROR_BILINEAR : MIRROR_CATMULLROM;
     *side = 128;
-    *out = taps == 16 ? 16 : 64;
+    *out = taps == 16 ? 32 : 64;
 }
 
 static void pass(int floats, int taps, int port, int runs)
