@@ -82,14 +82,16 @@ pub(crate) fn sums16(src: &[f32], row: usize, at0: usize, ws: &[f64]) -> [f64; 1
     let mut ss: [f64; 16] = [0.0; 16];
     let mut at = at0;
     let mut k: usize = 0;
-    while k + 1 < ws.len() {
+    let mut left = ws.len();
+    while 1 < left {
         let next = at + row;
         let n = add_two16(ss, src, at, next, ws[k], ws[k + 1]);
         ss = n;
         at = next + row;
         k = k + 2;
+        left = left - 2;
     }
-    if k < ws.len() {
+    if 0 < left {
         add16(ss, src, at, ws[k])
     } else {
         ss

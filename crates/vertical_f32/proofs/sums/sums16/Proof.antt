@@ -16,14 +16,15 @@ use Rattle.vertical_f32.proofs.sums.sums16.Statement.{statement}
 use Rattle.vertical_f32.proofs.sums.sums16.Tie as tie
 
 abbrev Inv-loop : tie.InvT-loop
-Inv-loop src row at0 ws ss₀ at₀ k₀ ss at k =
+Inv-loop src row at0 ws ss₀ at₀ k₀ left₀ ss at k left =
     (k ≤ length ws)
     × (at ≡ at0 + k * row)
     × (length ss ≡ 16)
     × ((t : ℕ) → t < 16 → getD ss t nan ≡ columnSum ws src (at0 + t) row k)
+    × (k + left ≡ length ws)
 
 abbrev μ-loop : tie.MeasureT-loop
-μ-loop src row at0 ws ss₀ at₀ k₀ ss at k = length ws - k
+μ-loop src row at0 ws ss₀ at₀ k₀ left₀ ss at k left = length ws - k
 
 -- one line of the window: its sixteen samples are there, and are numbers
 line : (ws src : List Float) (at0 row k at : ℕ) → Good ws src at0 row 16 → k < length ws → at ≡ at0 + k * row → (at + 16 ≤ length src) × ((t : ℕ) → t < 16 → T (not (isNan (getD src (at + t) nan))))
@@ -45,10 +46,8 @@ loop-holds c =
       omega arith,
       refl,
       λ t h. getD-replicate 16 t (ofBits binary64 0) nan h ∙ sum-none (a .ws .now) (a .src .now) (a .at0 + t) (a .row),
+      omega arith,
     )
-
-add-loop : tie.Need-add-loop Inv-loop μ-loop
-add-loop c = omega arith
 
 add-next : tie.Need-add-next Inv-loop μ-loop
 add-next c =
@@ -75,7 +74,7 @@ add-two16-requires c κs =
     let l = c .before .before .before in
     let a = l .before .before .before .args in
     let here = lines l (omega arith) in
-    let next = line (a .ws .now) (a .src .now) (a .at0) (a .row) (l .loop .k + 1) (l .loop .at + a .row) (l .before .before .before .pre) (c .before .before .loop-test .taken) (below l) in
+    let next = line (a .ws .now) (a .src .now) (a .at0) (a .row) (l .loop .k + 1) (l .loop .at + a .row) (l .before .before .before .pre) (omega arith) (below l) in
     (l .loop .inv .2, (here .0, (next .0, (here .1, next .1))))
 
 add-at : tie.Need-add-at Inv-loop μ-loop
@@ -85,6 +84,9 @@ add-at c =
 
 add-k : tie.Need-add-k Inv-loop μ-loop
 add-k c = omega arith
+
+sub-left : tie.Need-sub-left Inv-loop μ-loop
+sub-left c = omega arith
 
 loop-less : tie.Need-loop-less Inv-loop μ-loop
 loop-less c = omega arith
@@ -98,6 +100,7 @@ loop-again c =
       omega (arith, add-mul (l .loop .k) 2 (a .row)),
       c .add-two16 .ensures .0,
       λ t h. rw (← two) (turn (a .ws .now) (a .src .now) (a .at0 + t) (a .row) (l .loop .k + 1) (l .loop .at + a .row + t) (c .add-two16 .ensures .1 t h) (turn (a .ws .now) (a .src .now) (a .at0 + t) (a .row) (l .loop .k) (l .loop .at + t) refl (l .loop .inv .3 t h) (omega arith)) (omega (arith, below l))),
+      omega arith,
     )
 
 mul-add16 : tie.Need-mul-add16 Inv-loop μ-loop
@@ -131,7 +134,6 @@ sums16-spec =
     Inv-loop
     μ-loop
     loop-holds
-    add-loop
     add-next
     mul-add-two16
     shared-slice-read-add-two16
@@ -141,6 +143,7 @@ sums16-spec =
     add-two16-requires
     add-at
     add-k
+    sub-left
     loop-less
     loop-again
     mul-add16
