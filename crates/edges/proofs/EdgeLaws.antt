@@ -1,6 +1,6 @@
 -- Laws of an edge's text: its places lie inside it in their order, its digits are at most 15, and the quotient of two exact numbers is rounded once.
 -- Cited by the functions of `decimal` and `pattern`. Assumes nothing.
-use mathlib.Core.List.{List, _∷_}
+use mathlib.Core.List.{List, [], _∷_}
 use mathlib.Core.Path.{_≡_, refl, sym, _∙_}
 use mathlib.Core.Bool.{Bool, true, false, cond, not, _&&_, _||_}
 use Prim.Native.Nat.{ℕ, _+_, _-_, _*_, _^_, _≤_, _<_}

@@ -1,5 +1,5 @@
 -- Texts and their edges, by computation on the definition. Cited by nobody: they show what it says. Assumes nothing.
-use mathlib.Core.List.{_∷_}
+use mathlib.Core.List.{[], _∷_}
 use mathlib.Core.Path.{_≡_, refl}
 use lib.Ieee.{binary64, ofBits, round, inf}
 use mathlib.Core.Bool.{false}
