@@ -1,0 +1,15 @@
+pub mod FromAbove
+pub mod AddAway
+pub mod Overflow
+pub mod SignBack
+pub mod Narrowed
+pub mod Fast
+pub mod Decided
+pub mod SumLaws
+pub mod Lanes
+pub mod WeightSize
+pub mod Turns
+pub mod Flags
+pub mod Values
+pub mod Judged
+pub mod Sure
