@@ -1,0 +1,58 @@
+// What is said of an argument that is not understood, or missing: its place, the words allowed, and the word.
+use crate::streams::err;
+use crate::streams::err_argument;
+use crate::streams::out;
+use crate::streams::out_argument;
+
+fn misread(i: usize, place: &[u8], allowed: &[u8], reason: &[u8]) {
+    out(b"unread=");
+    out(place);
+    out(b" allowed=");
+    out(allowed);
+    out(b" word=");
+    out_argument(i);
+    out(b"\n");
+    err(b"not understood: '");
+    err_argument(i);
+    err(b"' as the ");
+    err(place);
+    err(b", which is ");
+    err(reason);
+    err(b"\nthe words are: FILTER SIDE NEAR EXTENT OUTPUT [adapt|fixed] [16|32]\n");
+}
+
+fn filter() {
+    let names = b"box,bilinear,catmullrom,mitchell";
+    misread(
+        1,
+        b"filter",
+        names,
+        b"box, bilinear, catmullrom or mitchell",
+    );
+}
+
+fn whole(i: usize, place: &[u8]) {
+    misread(i, place, b"1..8192", b"a whole number, 1 to 8192");
+}
+
+fn edge(i: usize, place: &[u8]) {
+    let forms = b"a decimal of up to 15 digits, or 0x and the 16 hexadecimal digits of a double";
+    misread(i, place, b"decimal,0x", forms);
+}
+
+fn manner(i: usize) {
+    let forms = b"adapt or fixed, then 16 or 32, then no more";
+    misread(i, b"manner", b"adapt,fixed,16,32", forms);
+}
+
+// Argument i.
+pub(crate) fn unread(i: usize) {
+    match i {
+        1 => filter(),
+        2 => whole(2, b"side"),
+        3 => edge(3, b"near"),
+        4 => edge(4, b"extent"),
+        5 => whole(5, b"output"),
+        _ => manner(i),
+    }
+}
