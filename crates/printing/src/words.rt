@@ -11,31 +11,31 @@ use asking::fields::Whole;
 use edges::Edge;
 
 // Whether the kernel adapts and whether the store is the narrow one, or the argument that is not understood.
-enum Manner {
+enum Options {
     Is(bool, bool),
     Unread(usize),
 }
 
 // The store that argument i chooses, 32 bits where there is none; it is the last argument.
-fn store_at(i: usize, adapts: bool) -> Manner {
+fn store_at(i: usize, adapts: bool) -> Options {
     let n = os::arg_count();
     if n <= i {
-        return Manner::Is(adapts, false);
+        return Options::Is(adapts, false);
     }
     if i < n - 1 {
-        return Manner::Unread(n - 1);
+        return Options::Unread(n - 1);
     }
     if is_at(i, b"16") {
-        return Manner::Is(adapts, true);
+        return Options::Is(adapts, true);
     }
     if is_at(i, b"32") {
-        return Manner::Is(adapts, false);
+        return Options::Is(adapts, false);
     }
-    Manner::Unread(i)
+    Options::Unread(i)
 }
 
 // The arguments after the output side.
-fn manner() -> Manner {
+fn chosen() -> Options {
     if is_at(6, b"adapt") {
         return store_at(7, true);
     }
@@ -72,9 +72,9 @@ pub(crate) fn answer() {
         unread(5);
         return;
     };
-    let manner_read = manner();
-    match manner_read {
-        Manner::Is(adapts, narrow) => making::print(Asked {
+    let options = chosen();
+    match options {
+        Options::Is(adapts, narrow) => making::print(Asked {
             filter: filter,
             side: side,
             near: near,
@@ -83,6 +83,6 @@ pub(crate) fn answer() {
             adapts: adapts,
             narrow: narrow,
         }),
-        Manner::Unread(i) => unread(i),
+        Options::Unread(i) => unread(i),
     }
 }
