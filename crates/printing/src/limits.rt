@@ -16,10 +16,15 @@ fn too_large(what: &[u8], limit: &[u8]) {
     err(b"\n");
 }
 
+// The lists of the set are too short.
+pub(crate) fn slots() {
+    too_large(b"slots", b"65536");
+}
+
 // The limit that a refused writer of the program's lists has reached.
 pub(crate) fn reached(refusal: Refusal) {
     match refusal {
         Refusal::NoRoom => too_large(b"bytes", b"524288"),
-        _ => too_large(b"slots", b"65536"),
+        _ => slots(),
     }
 }

@@ -10,7 +10,6 @@ use coefficients::Axis;
 use coefficients::Built;
 use coefficients::Request;
 use crop_box::CropBox;
-use refusal::Refusal;
 
 // The request: an image one column wide, built down its side.
 fn request(asked: Asked) -> Request {
@@ -48,14 +47,38 @@ fn build(asked: Asked, weights: &mut [f64], starts: &mut [u32], sizes: &mut [u32
     }
 }
 
-// The set without the slots that were not asked for.
+// How many slots the set has.
 fn normalise(asked: Asked, window: u32, weights: &[f64], starts: &[u32], sizes: &[u32]) {
-    let a: usize = 0;
     let n = asked.output as usize;
-    let slots = n * window as usize;
-    if (weights.len() < slots) | (starts.len() < n) | (sizes.len() < n) {
-        limits::reached(Refusal::TooFewSlots);
-        return;
+    let w = window as usize;
+    if 8192 < n {
+        return limits::slots();
+    }
+    if 32769 < w {
+        return limits::slots();
+    }
+    cut(asked, window, n, n * w, weights, starts, sizes);
+}
+
+// The set without the slots, starts and sizes that were not asked for.
+fn cut(
+    asked: Asked,
+    window: u32,
+    n: usize,
+    slots: usize,
+    weights: &[f64],
+    starts: &[u32],
+    sizes: &[u32],
+) {
+    let a: usize = 0;
+    if weights.len() < slots {
+        return limits::slots();
+    }
+    if starts.len() < n {
+        return limits::slots();
+    }
+    if sizes.len() < n {
+        return limits::slots();
     }
     if asked.narrow {
         sheet16(
@@ -65,13 +88,13 @@ fn normalise(asked: Asked, window: u32, weights: &[f64], starts: &[u32], sizes: 
             &starts[a..n],
             &sizes[a..n],
         );
-        return;
+    } else {
+        sheet32(
+            asked,
+            window,
+            &weights[a..slots],
+            &starts[a..n],
+            &sizes[a..n],
+        );
     }
-    sheet32(
-        asked,
-        window,
-        &weights[a..slots],
-        &starts[a..n],
-        &sizes[a..n],
-    );
 }

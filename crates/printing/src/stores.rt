@@ -20,8 +20,7 @@ pub(crate) fn sheet16(asked: Asked, window: u32, weights: &[f64], starts: &[u32]
     let a: usize = 0;
     let n = weights.len();
     if 65536 < n {
-        limits::reached(Refusal::TooFewSlots);
-        return;
+        return limits::slots();
     }
     let filter = asked.filter;
     let used = &store[a..n];
@@ -51,8 +50,7 @@ pub(crate) fn sheet32(asked: Asked, window: u32, weights: &[f64], starts: &[u32]
     let a: usize = 0;
     let n = weights.len();
     if 65536 < n {
-        limits::reached(Refusal::TooFewSlots);
-        return;
+        return limits::slots();
     }
     let filter = asked.filter;
     let used = &store[a..n];
