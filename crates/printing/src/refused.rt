@@ -33,45 +33,62 @@ fn value(i: usize, what: &[u8], limit: &[u8], rule: &[u8]) {
     err(b"\n");
 }
 
-// The same where the limit is the side.
-fn within_side(i: usize, what: &[u8], rule: &[u8]) {
-    let mut side = [0u8; 64];
-    let n = os::arg(2, &mut side);
-    value(i, what, &side[..n], rule);
-}
-
 fn bad_side(output: u32) {
+    number(Refusal::BadSide, b"BadSide");
     if (output < 1) | (8192 < output) {
         value(5, b"output side", b"8192", b"it must be 1 to");
-        return;
+    } else {
+        value(2, b"side", b"8192", b"it must be 1 to");
     }
-    value(2, b"side", b"8192", b"it must be 1 to");
 }
 
 fn not_finite(near: f64) {
+    number(Refusal::NotFinite, b"NotFinite");
     if near - near == 0.0 {
         value(4, b"extent", b"finite", b"it must be");
-        return;
+    } else {
+        value(3, b"near edge", b"finite", b"it must be");
     }
-    value(3, b"near edge", b"finite", b"it must be");
 }
 
-fn store(narrow: bool) {
-    if narrow {
-        value(
-            7,
-            b"store",
-            b"32767",
-            b"a weight does not fit it; take 32, not",
-        );
-        return;
-    }
+fn negative_extent() {
+    number(Refusal::NegativeExtent, b"NegativeExtent");
+    value(4, b"extent", b"0", b"it must not be below");
+}
+
+fn start_outside(side: &[u8]) {
+    let rule = b"it must be at least 0 and below the side,";
+    number(Refusal::StartOutside, b"StartOutside");
+    value(3, b"near edge", side, rule);
+}
+
+fn end_outside(side: &[u8]) {
+    number(Refusal::EndOutside, b"EndOutside");
+    out(b" near=");
+    out_argument(3);
     value(
-        7,
-        b"store",
-        b"2147483647",
-        b"a weight does not fit it, above",
+        4,
+        b"extent",
+        side,
+        b"with the near edge it must not pass the side,",
     );
+}
+
+fn no_scale() {
+    let rule = b"the far edge less the near edge must be above";
+    number(Refusal::NoScale, b"NoScale");
+    value(4, b"extent", b"0", rule);
+}
+
+fn weight_outside(narrow: bool) {
+    number(Refusal::WeightOutside, b"WeightOutside");
+    if narrow {
+        out(b" store=16\n");
+        err(b"a weight does not fit the 16-bit store; take 32\n");
+    } else {
+        out(b" store=32\n");
+        err(b"a weight does not fit the 32-bit store\n");
+    }
 }
 
 // No. 8: the first display line whose weights total 0.
@@ -87,37 +104,17 @@ pub(crate) fn blank(line: u32) {
 
 // The refusals of a request or a normaliser. Those that speak of room are the program's own limits.
 pub(crate) fn refused(refusal: Refusal, asked: Asked) {
-    match refusal {
-        Refusal::BadSide => number(refusal, b"BadSide"),
-        Refusal::NotFinite => number(refusal, b"NotFinite"),
-        Refusal::NegativeExtent => number(refusal, b"NegativeExtent"),
-        Refusal::StartOutside => number(refusal, b"StartOutside"),
-        Refusal::EndOutside => number(refusal, b"EndOutside"),
-        Refusal::NoScale => number(refusal, b"NoScale"),
-        Refusal::WeightOutside => number(refusal, b"WeightOutside"),
-        _ => limits::reached(refusal),
-    }
+    let mut text = [0u8; 64];
+    let n = os::arg(2, &mut text);
+    let side = &text[..n];
     match refusal {
         Refusal::BadSide => bad_side(asked.output),
         Refusal::NotFinite => not_finite(asked.near),
-        Refusal::NegativeExtent => value(4, b"extent", b"0", b"it must not be below"),
-        Refusal::StartOutside => within_side(
-            3,
-            b"near edge",
-            b"it must be at least 0 and below the side,",
-        ),
-        Refusal::EndOutside => within_side(
-            4,
-            b"extent",
-            b"past the near edge it must not pass the side,",
-        ),
-        Refusal::NoScale => value(
-            4,
-            b"extent",
-            b"0",
-            b"the far edge less the near edge must be above",
-        ),
-        Refusal::WeightOutside => store(asked.narrow),
-        _ => (),
+        Refusal::NegativeExtent => negative_extent(),
+        Refusal::StartOutside => start_outside(side),
+        Refusal::EndOutside => end_outside(side),
+        Refusal::NoScale => no_scale(),
+        Refusal::WeightOutside => weight_outside(asked.narrow),
+        _ => limits::reached(refusal),
     }
 }
