@@ -10,6 +10,7 @@ mod passes;
 pub mod raw;
 mod refusal;
 mod sets;
+mod sheets;
 
 pub use alpha::{divide_alpha, divide_alpha_inplace, multiply_alpha, multiply_alpha_inplace};
 pub use crops::{crop, fit, Centring, CropBox};
@@ -17,6 +18,7 @@ pub use numbers::{abs, ceil, clip8, filter, floor, narrow, round, widen, Filter}
 pub use passes::{vertical_f32, vertical_u16, Frame};
 pub use refusal::Refusal;
 pub use sets::{normalize16, normalize32, weights, Axis, Request, Set};
+pub use sheets::{sheet16, sheet32};
 
 /// The number of a line of the camera's image, from 0.
 #[repr(transparent)]

@@ -123,3 +123,19 @@ fn alpha_gives_rows_1_to_6() {
     assert_eq!(multiply_alpha(&[0; 4], &mut [0; 8]), Err(Refusal::DoesNotFit));
     assert_eq!((divide_alpha_inplace(&mut pixels[..3]), divide_alpha_inplace(&mut [])), (Err(Refusal::DoesNotFit), Ok(())));
 }
+
+#[test]
+fn the_sheet_is_document_01s() {
+    const SHEET: &[u8] = b"kind=box\nin=4\nout=2\nwindow=3\nstore=32\nprecision=31\nw0=0,2:1073741824,1073741824\nw1=2,2:1073741824,1073741824\n";
+    let half = 1 << 30;
+    let (weights, starts, sizes) = ([half, half, 0, half, half, 0], [CameraLine(0), CameraLine(2)], [2, 2]);
+    let set32 = Set { lines: 4, window: 3, weights: &weights, starts: &starts, sizes: &sizes };
+    let mut text = [7; SHEET.len() + 1];
+    assert_eq!(sheet32(Filter::Box, &set32, 31, &mut text[..SHEET.len() - 1]), Err(Refusal::NoRoom));
+    assert_eq!(text, [7; SHEET.len() + 1]);
+    assert_eq!(sheet32(Filter::Box, &set32, 31, &mut text), Ok(SHEET.len() as u64));
+    assert_eq!((&text[..SHEET.len()], text[SHEET.len()]), (SHEET, 7));
+    assert_eq!(sheet16(Filter::Mitchell, &set(1, &[-5], &[1]), 4, &mut text), Ok(65));
+    assert!(text.starts_with(b"kind=mitchell\nin=1\nout=1\nwindow=1\nstore=16\nprecision=4\nw0=0,1:-5\n"));
+    assert_eq!(sheet16(Filter::Box, &set(1, &[-5], &[1]), 22, &mut text), Err(Refusal::DoesNotFit));
+}

@@ -42,6 +42,7 @@ int main(void)
     check_normalizers();
     check_passes();
     check_alpha();
+    check_sheets();
     printf("checks=%d failures=%d\n", checks, failures);
     return failures != 0;
 }

@@ -1,4 +1,4 @@
-/* Functions over frames: the two passes, alpha, and the sheet. */
+/* Functions over frames: the two passes and alpha. */
 #include <math.h>
 
 #include "check.h"
