@@ -4,8 +4,8 @@ mod buffer;
 mod input;
 
 use asking::Words;
-use asking::emit;
 pub use input::run;
+use telling::emit;
 
 // One line's answer, with its newline.
 pub(crate) fn answer(line: &[u8], n: usize, out: &mut [u8]) -> usize {
@@ -20,6 +20,9 @@ pub(crate) fn answer(line: &[u8], n: usize, out: &mut [u8]) -> usize {
 fn by_group(line: &[u8], w: Words, n: usize, out: &mut [u8]) -> usize {
     if ask_numbers::knows(line, w) {
         return ask_numbers::answer(line, w, n, out);
+    }
+    if ask_crop::knows(line, w) {
+        return ask_crop::answer(line, w, n, out);
     }
     emit::bad(n, out)
 }
