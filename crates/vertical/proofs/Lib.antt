@@ -1,4 +1,5 @@
 pub mod Answers
 pub mod Columns
+pub mod Turns
 pub mod Table
 pub mod Sure

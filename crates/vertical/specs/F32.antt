@@ -3,9 +3,9 @@
 use mathlib.Core.Bool.{Bool, true, false, cond, _||_}
 use mathlib.Core.List.{List}
 use Prim.Native.Nat.{ℕ, _+_}
+use lib.Ieee.{Float, nan, inf, fin, binary64, add, mul, lt, ofBits, ofInt}
 use lib.IntN.{pos}
 use lib.ListN.{length}
-use lib.Ieee.{Float, nan, inf, fin, binary64, add, mul, lt, ofBits, ofInt}
 use Rattle.lists.specs.Tab.{any, turns}
 use Rattle.refusal.specs.declared.Refusal.the-variants.{BadSide, DoesNotFit, SampleOutside}
 use Rattle.numbers.specs.Whole.{abs, narrow}

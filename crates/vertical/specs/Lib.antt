@@ -1,4 +1,5 @@
 pub mod Passed
 pub mod Frame
+pub mod Ready
 pub mod U16
 pub mod F32

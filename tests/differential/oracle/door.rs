@@ -5,6 +5,12 @@ use crate::pixels::InnerPixel;
 
 pub struct Door;
 
+/// Names for the two normalisers, whose module is private.
+pub(crate) trait Named {
+    type Normalizer16;
+    type Normalizer32;
+}
+
 /// A set of windows. A window's weights are the first `sizes[i]` of its `window` slots.
 pub struct Weights {
     pub window: usize,

@@ -13,26 +13,32 @@ fn coefficients(set: &Weights) -> Coefficients {
     }
 }
 
-/// The given Normalizer16's precision and weights, window by window.
-pub(crate) fn normalize16(set: &Weights) -> Integers<i16> {
-    let made = Normalizer16::new(coefficients(set));
+/// A given Normalizer16's precision and weights, window by window.
+fn values16(made: &Normalizer16) -> Integers<i16> {
     Integers {
         precision: made.precision() as u32,
         windows: made.chunks().iter().map(|c| c.values().to_vec()).collect(),
     }
 }
 
-/// The given Normalizer32's precision and weights, window by window.
-pub(crate) fn normalize32(set: &Weights) -> Integers<i32> {
-    let made = Normalizer32::new(coefficients(set));
+/// A given Normalizer32's precision and weights, window by window.
+fn values32(made: &Normalizer32) -> Integers<i32> {
     Integers {
         precision: made.precision() as u32,
         windows: made.chunks().iter().map(|c| c.values().to_vec()).collect(),
     }
+}
+
+fn normalize16(set: &Weights) -> Integers<i16> {
+    values16(&Normalizer16::new(coefficients(set)))
+}
+
+fn normalize32(set: &Weights) -> Integers<i32> {
+    values32(&Normalizer32::new(coefficients(set)))
 }
 
 /// The given 8-bit clip of a shifted sum from -640 to 639. One weight 1.0 makes a normaliser of precision 14.
-pub(crate) fn clip8(value: i32) -> u8 {
+fn clip8(value: i32) -> u8 {
     assert!((-640..640).contains(&value));
     let one = Weights { window: 1, slots: vec![1.0], starts: vec![0], sizes: vec![1] };
     let made = Normalizer16::new(coefficients(&one));
@@ -64,7 +70,16 @@ pub(crate) fn coefficients_of(set: &Weights) -> Coefficients {
     coefficients(set)
 }
 
+impl crate::door::Named for crate::door::Door {
+    type Normalizer16 = Normalizer16;
+    type Normalizer32 = Normalizer32;
+}
+
 impl crate::door::Door {
+    pub(crate) const NEW16: fn(Coefficients) -> Normalizer16 = Normalizer16::new;
+    pub(crate) const NEW32: fn(Coefficients) -> Normalizer32 = Normalizer32::new;
+    pub(crate) const VALUES16: fn(&Normalizer16) -> Integers<i16> = values16;
+    pub(crate) const VALUES32: fn(&Normalizer32) -> Integers<i32> = values32;
     pub(crate) const NORMALIZE16: fn(&Weights) -> Integers<i16> = normalize16;
     pub(crate) const NORMALIZE32: fn(&Weights) -> Integers<i32> = normalize32;
     pub(crate) const CLIP8: fn(i32) -> u8 = clip8;

@@ -1,0 +1,10 @@
+pub mod WeightLaws
+pub mod LineLaws
+pub mod WindowLaws
+pub mod Bounds
+pub mod CropLaws
+pub mod PlanLaws
+pub mod JudgeLaws
+pub mod BuiltLaws
+pub mod Examples
+pub mod Sure

@@ -1,0 +1,65 @@
+-- `lead` meets its contract: the loop keeps the search open from x on. Assumes nothing.
+use Rattle.coefficients.proofs.weights.lead.Statement.{statement}
+use Rattle.coefficients.proofs.weights.lead.Tie as tie
+use Prim.Native.Nat.{_-_, _+_}
+use mathlib.Core.Path.{_≡_, refl, sym, _∙_}
+use mathlib.Core.Bool.{true, false}
+use Rattle.lists.specs.Tab.{first}
+use Rattle.lists.proofs.FirstLaws.{first-stop, first-on}
+use Rattle.coefficients.specs.Weights.{leadOf, weighs}
+use borrow.Author.Needs.{needs}
+use native.Mathlib.Omega.{arith}
+
+abbrev Inv-loop : tie.InvT-loop
+Inv-loop f c recip start stop x₀ x = leadOf f c recip start stop ≡ first (weighs f c recip) x (stop - x)
+
+abbrev μ-loop : tie.MeasureT-loop
+μ-loop f c recip start stop x₀ x = stop - x
+
+loop-holds : tie.Need-loop-holds Inv-loop μ-loop
+unfolding leadOf
+loop-holds c = refl
+
+line-weight-requires : tie.Need-line-weight-requires Inv-loop μ-loop
+line-weight-requires c κs = search needs
+
+returns : tie.Need-returns Inv-loop μ-loop
+returns c =
+    let at = c .before .before .before in
+    let args = at .before .args in
+    let here : weighs (args .f) (args .c) (args .recip) (at .loop .x) ≡ true = rw (← c .before .line-weight .ensures) (c .if1 .taken) in
+    sym (at .loop .inv ∙ first-stop (weighs (args .f) (args .c) (args .recip)) (at .loop .x) (args .stop - at .loop .x) (omega arith) here)
+
+add-x : tie.Need-add-x Inv-loop μ-loop
+add-x c = search needs
+
+loop-less : tie.Need-loop-less Inv-loop μ-loop
+loop-less c = search needs
+
+loop-again : tie.Need-loop-again Inv-loop μ-loop
+loop-again c =
+    let at = c .before .before .before in
+    let args = at .before .args in
+    let here : weighs (args .f) (args .c) (args .recip) (at .loop .x) ≡ false = rw (← c .before .line-weight .ensures) (c .if1 .left) in
+    let left : args .stop - at .loop .x - 1 ≡ args .stop - (at .loop .x + 1) = omega arith in
+    at .loop .inv ∙ first-on (weighs (args .f) (args .c) (args .recip)) (at .loop .x) (args .stop - at .loop .x) (omega arith) here ∙ rw left
+
+returns-2 : tie.Need-returns-2 Inv-loop μ-loop
+returns-2 c =
+    let args = c .before .before .args in
+    let none : args .stop - c .before .loop .x ≡ 0 = omega arith in
+    sym (c .before .loop .inv ∙ rw none)
+
+pub lead-spec : {M : Type 1} → statement M
+lead-spec =
+    tie.close
+    (tie.spec
+    Inv-loop
+    μ-loop
+    loop-holds
+    line-weight-requires
+    returns
+    add-x
+    loop-less
+    loop-again
+    returns-2)

@@ -1,0 +1,5 @@
+pub mod Clips
+pub mod Sizes
+pub mod Values
+pub mod Judged
+pub mod Sure

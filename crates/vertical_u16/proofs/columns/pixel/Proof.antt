@@ -1,0 +1,28 @@
+-- A sum that starts from the half is the half added at the end (`shifted-from`). Assumes nothing.
+use mathlib.Core.Path.{_∙_, ap}
+use borrow.Author.Needs.{needs}
+use Rattle.integers.proofs.Floors.{shifted-from}
+use Rattle.integers.specs.Sums.{clipped}
+use Rattle.vertical_u16.proofs.Clips.{back}
+use Rattle.vertical_u16.proofs.Sizes.{half-size}
+use Rattle.vertical_u16.proofs.columns.pixel.Statement.{statement}
+use Rattle.vertical_u16.proofs.columns.pixel.Tie as tie
+
+half-requires : tie.Need-half-requires
+half-requires c κs = search needs
+
+sum-requires : tie.Need-sum-requires
+sum-requires c κs =
+    let q = c .before .before .pre in
+    (half-size (c .before .before .args .p) (q .0 .1) (back (c .half .ok) ∙ c .half .ensures), (q .1 .0, (q .1 .1 .0, q .1 .1 .1)))
+
+clip-requires : tie.Need-clip-requires
+clip-requires c κs = search needs
+
+returns : tie.Need-returns
+returns c =
+    let h = c .before .before .half in
+    c .clip .ensures ∙ rw (back (c .before .sum .ok), c .before .sum .ensures, back (h .ok), h .ensures) (ap (clipped 65535) (shifted-from _ _))
+
+pub pixel-spec : {M : Type 1} → statement M
+pixel-spec = tie.close (tie.spec half-requires sum-requires clip-requires returns)
