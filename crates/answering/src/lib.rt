@@ -24,5 +24,8 @@ fn by_group(line: &[u8], w: Words, n: usize, out: &mut [u8]) -> usize {
     if ask_crop::knows(line, w) {
         return ask_crop::answer(line, w, n, out);
     }
+    if ask_weights::knows(line, w) {
+        return ask_weights::answer(line, w, n, out);
+    }
     emit::bad(n, out)
 }
