@@ -36,7 +36,7 @@ use Rattle.coefficients.specs.declared.Plan.{Plan}
 use Rattle.coefficients.specs.declared.Planned.the-variants.{Ready, Refused}
 use Rattle.coefficients.specs.Lines.{centre}
 use Rattle.coefficients.specs.Inner.{Sound}
-use Rattle.coefficients.specs.Request.{edgeOf, scaleOf, filterScaleOf, radiusOf, planFor, scaled, afterCrop, planOf}
+use Rattle.coefficients.specs.Request.{edgeOf, scaleOf, filterScaleOf, radiusOf, planFor, scaled, afterCrop, planOf, badOutput, noScale}
 use Rattle.coefficients.proofs.Bounds.{Clear, within-mono, clear-mono, add-within, near-is-clear, scale-within}
 use Rattle.coefficients.proofs.CropLaws.{Both, crop-passed}
 
@@ -129,22 +129,32 @@ unlike refusal p h = let z : _≡_ {A = ℕ} 0 1 = cc in omega arith
 ready : (x y : Plan) → Ready x ≡ Ready y → x ≡ y
 ready x y h = cc
 
-after-sound : (q : Request) (p : Plan) (c : Cropped) → cropOf (q .width) (q .height) (q .crop) ≡ c → ltb (q .output) 1 || ltb 8192 (q .output) ≡ false → afterCrop q c ≡ Ready p → Sound p
+after-by : (q : Request) (p : Plan) (Good : Plan → Type 0) (c : Cropped) → cropOf (q .width) (q .height) (q .crop) ≡ c
+    → ((b : CropBox) → Both (q .width) (q .height) b → noScale (edgeOf (q .axis) (q .width) (q .height) b) (q .output) ≡ false → Good (planFor (q .filter) (q .adapts) (edgeOf (q .axis) (q .width) (q .height) b) (q .output)))
+    → afterCrop q c ≡ Ready p → Good p
 unfolding afterCrop scaled
-after-sound q p (CropRefused refusal) e o h = absurd (unlike refusal p h)
-after-sound q p (Inside b) e o h =
-    let ok = crop-passed (q .width) (q .height) (q .crop) b e in
+after-by q p Good (CropRefused refusal) e good h = absurd (unlike refusal p h)
+after-by q p Good (Inside b) e good h =
     let ed = edgeOf (q .axis) (q .width) (q .height) b in
-    let s = ladder (le (scaleOf ed (q .output)) zero64) (unlike NoScale p) h in
-    let w = edge-scale (q .axis) (q .width) (q .height) (q .output) b ok (output-in (q .output) o .0) (output-in (q .output) o .1) (s .0) in
-    subst (λ (x : Plan). Sound x) (ready (planFor (q .filter) (q .adapts) ed (q .output)) p (s .1))
-    (sound (q .filter) (q .adapts) ed (q .output) (output-in (q .output) o .1) (edge-side (q .axis) (q .width) (q .height) b ok) (edge-near (q .axis) (q .width) (q .height) b ok) w)
+    let s = ladder (noScale ed (q .output)) (unlike NoScale p) h in
+    subst Good (ready (planFor (q .filter) (q .adapts) ed (q .output)) p (s .1)) (good b (crop-passed (q .width) (q .height) (q .crop) b e) (s .0))
+
+-- a plan was made from a box that passed the crop, with a scale above 0 and an output side in its range: what holds of every such plan holds of it
+pub plan-by : (q : Request) (p : Plan) (Good : Plan → Type 0)
+    → ((b : CropBox) → Both (q .width) (q .height) b → 0 < q .output → q .output ≤ 8192 → Within (scaleOf (edgeOf (q .axis) (q .width) (q .height) b) (q .output)) 8192 → Good (planFor (q .filter) (q .adapts) (edgeOf (q .axis) (q .width) (q .height) b) (q .output)))
+    → planOf q ≡ Ready p → Good p
+unfolding planOf
+plan-by q p Good good e =
+    let s1 = ladder (badOutput (q .output)) (unlike BadSide p) e in
+    let o = output-in (q .output) (s1 .0) in
+    after-by q p Good (cropOf (q .width) (q .height) (q .crop)) refl (λ b ok z. good b ok (o .0) (o .1) (edge-scale (q .axis) (q .width) (q .height) (q .output) b ok (o .0) (o .1) z)) (s1 .1)
 
 pub plan-sound : (q : Request) (p : Plan) → planOf q ≡ Ready p → Sound p
-unfolding planOf
-plan-sound q p e =
-    let s1 = ladder (ltb (q .output) 1 || ltb 8192 (q .output)) (unlike BadSide p) e in
-    after-sound q p (cropOf (q .width) (q .height) (q .crop)) refl (s1 .0) (s1 .1)
+plan-sound q p =
+    plan-by q p Sound
+    (λ b ok some few w.
+    sound (q .filter) (q .adapts) (edgeOf (q .axis) (q .width) (q .height) b) (q .output) few
+    (edge-side (q .axis) (q .width) (q .height) b ok) (edge-near (q .axis) (q .width) (q .height) b ok) w)
 
 -- ---- what `prepare` gave is `planOf`
 module _ (q : Request) (b : CropBox) (inside : cropOf (q .width) (q .height) (q .crop) ≡ Inside b) (output : ltb (q .output) 1 || ltb 8192 (q .output) ≡ false) where

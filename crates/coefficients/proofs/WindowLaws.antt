@@ -20,7 +20,7 @@ step-pos true n r h = omega arith
 step-pos false n r h = h
 
 -- where the first passes, at least one is left
-up-pos : (t : ℕ → Bool) (n : ℕ) → 0 < n → t 0 ≡ true → 0 < upTo t n
+pub up-pos : (t : ℕ → Bool) (n : ℕ) → 0 < n → t 0 ≡ true → 0 < upTo t n
 up-pos t zero l h = l
 up-pos t (suc zero) l h = rw h (le-refl 1)
 up-pos t (suc (suc n)) l h = step-pos (t (suc n)) (suc n) (upTo t (suc n)) (up-pos t (suc n) (omega arith) h)
@@ -28,13 +28,13 @@ up-pos t (suc (suc n)) l h = step-pos (t (suc n)) (suc n) (upTo t (suc n)) (up-p
 end-in : (a n k e s : ℕ) → 0 < n → n ≤ k → k ≡ e - a → e ≤ s → a + n ≤ s
 end-in a n k e s l m h t = omega arith
 
-held-def : (p : Plan) (i : ℕ) → held p i ≡ rangeStop p i - lead p i
+pub held-def : (p : Plan) (i : ℕ) → held p i ≡ rangeStop p i - lead p i
 unfolding held
 held-def p i = refl
 
 module _ (p : Plan) (i : ℕ) where
   -- the line at which a window starts weighs
-  lead-weighs : 0 < held p i → weighs (p .filter) (middle p i) (p .recip) (lead p i) ≡ true
+  pub lead-weighs : 0 < held p i → weighs (p .filter) (middle p i) (p .recip) (lead p i) ≡ true
   unfolding held lead leadOf
   lead-weighs h = first-passes (weighs (p .filter) (middle p i) (p .recip)) (rangeStart p i) (rangeStop p i - rangeStart p i) (omega arith)
 
@@ -56,7 +56,7 @@ module _ (p : Plan) (i : ℕ) where
       go zero e = none-blank zero e refl
       go (suc n) e = let l : 0 < held p i = omega arith in let s = some-size l in absurd (omega arith)
 
-  stop-side : rangeStop p i ≤ p .side
+  pub stop-side : rangeStop p i ≤ p .side
   unfolding stop
   stop-side = omega arith
 

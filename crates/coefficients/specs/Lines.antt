@@ -70,9 +70,11 @@ slots p = p .output * p .window
 unfoldable pub orZero : {A : Type 0} → Plan → A → A → A
 orZero p zeros lines = cond (ltb (firstBlank p) (p .output)) zeros lines
 
+-- slot k of display line i is at i x window size + k
 abbrev pub weightsIn : Plan → List Float → List Float
 weightsIn p old = orZero p (front (slots p) zeroWeight old) (front (slots p) (grid (p .window) (slot p)) old)
 
+-- a start is a camera line, a size a count of them
 abbrev pub startsIn : Plan → List ℕ → List ℕ
 startsIn p old = orZero p (front (p .output) zeroLine old) (front (p .output) (lead p) old)
 

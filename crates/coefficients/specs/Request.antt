@@ -43,6 +43,7 @@ filterScaleOf adapts scale = cond adapts (cond (lt one64 scale) scale one64) one
 unfoldable pub radiusOf : FilterType → Bool → Float → Float
 radiusOf f adapts scale = supportOf f times filterScaleOf adapts scale
 
+-- what all windows of a request share; the window size is 2 x ceiling(radius) + 1
 abbrev pub planFor : FilterType → Bool → Edge → ℕ → Plan
 planFor f adapts e output = record {
   filter = f;
@@ -67,6 +68,7 @@ noScale e output = le (scaleOf e output) zero64
 abbrev pub short : Plan → ℕ → ℕ → ℕ → Bool
 short p weights starts sizes = (ltb weights (slots p) || ltb starts (p .output)) || ltb sizes (p .output)
 
+-- the plan, or No. 6
 unfoldable pub scaled : FilterType → Bool → Edge → ℕ → Planned
 scaled f adapts e output = cond (noScale e output) (Refused NoScale) (Ready (planFor f adapts e output))
 
@@ -100,6 +102,7 @@ kept old refusal = old
 abbrev pub weightsOf : Request → ℕ → ℕ → ℕ → List Float → List Float
 weightsOf q weights starts sizes old = judged (planOf q) weights starts sizes (kept old) (λ p. weightsIn p old)
 
+-- so too the starts and the sizes
 abbrev pub startsOf : Request → ℕ → ℕ → ℕ → List ℕ → List ℕ
 startsOf q weights starts sizes old = judged (planOf q) weights starts sizes (kept old) (λ p. startsIn p old)
 

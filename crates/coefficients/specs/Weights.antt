@@ -38,6 +38,7 @@ abbrev pub upTo : (ℕ → Bool) → ℕ → ℕ
 upTo t zero = 0
 upTo t (suc n) = cond (t n) (suc n) (upTo t n)
 
+-- whether the k-th line from a on weighs
 abbrev pub weighsFrom : FilterType → Float → Float → ℕ → ℕ → Bool
 weighsFrom f c recip a k = weighs f c recip (a + k)
 

@@ -120,7 +120,7 @@ le-zeros f a c b d C D p q =
     subst (λ (z : Float). T (le z (round f true b d))) (round-same f false 0 1 a c (zero-lt-suc 0) C (zero-mul c ∙ sym (mul-one a ∙ p)))
     (subst (λ (z : Float). T (le (round f false 0 1) z)) (round-same f true 0 1 b d (zero-lt-suc 0) D (zero-mul d ∙ sym (mul-one b ∙ q))) (plain-zeros f))
 
-round-mono-signed : (f : Format) (s t : Bool) (a c b d : ℕ) → 0 < c → 0 < d → T (atMost s a c t b d) → T (le (round f s a c) (round f t b d))
+pub round-mono-signed : (f : Format) (s t : Bool) (a c b d : ℕ) → 0 < c → 0 < d → T (atMost s a c t b d) → T (le (round f s a c) (round f t b d))
 round-mono-signed f false false a c b d C D h = round-mono f a c b d C D (nltb→le (b * c) (a * d) h)
 round-mono-signed f true true a c b d C D h =
     subst (λ (z : Float). T (le z (round f true b d))) (round-neg f false a c)

@@ -107,7 +107,7 @@ add-values f (fin r m e) (fin u n g) s t a c b d C D p q =
     ∙ sum-scale f s t (m * up e * down g) (n * up g * down e) (a * d) (b * c) (down e * down g) (c * d) (mul-pos (down-pos e) (down-pos g)) (mul-pos C D)
     (cross (m * up e) a c (n * up g) b d (down e) (down g) (p .1)) (cross' a c (n * up g) b d (down e) (down g) (q .1))
 
-neg-value : (y : Float) (t : Bool) (b d : ℕ) → HasValue y t b d → HasValue (neg y) (not t) b d
+pub neg-value : (y : Float) (t : Bool) (b d : ℕ) → HasValue y t b d → HasValue (neg y) (not t) b d
 unfolding neg
 neg-value nan t b d q = absurd q
 neg-value (inf u) t b d q = absurd q

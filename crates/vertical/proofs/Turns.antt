@@ -27,7 +27,7 @@ ready s samples row first count room h = record {
   wide = h .set .counts .wide .most;
   rooms = h .rooms;
   small = λ i l. h .set .each i l .most;
-  few = λ i l. omega (arith, h .set .each i l, h .sides .camera);
+  ends = λ i l. omega (arith, h .set .each i l, h .sides .camera);
   inside = λ i l. omega (arith, h .whole, mul-le-mul-right row (h .set .each i l .ends));
 }
 
@@ -59,7 +59,7 @@ module _ (samples row first count : ℕ) (starts sizes : List ℕ) (window slots
     outputs-few = (let l : count ≤ 32768 = omega (arith, r .fit, r .narrow) in omega (arith, r .rooms, mul-le-mul (r .many) l));
     first-line = omega (arith, all, r .lines, r .narrow);
     columns = omega (arith, r .fit, r .narrow);
-    few = r .few i h;
+    few = omega (arith, r .ends i h);
     lines = frame-lines;
   }
 

@@ -15,5 +15,5 @@ pub record Ready (samples row first count : ℕ) (starts sizes : List ℕ) (wind
   pub wide : window ≤ 32769
   pub rooms : room ≡ length starts * count
   pub small : (i : ℕ) → i < length starts → getD sizes i 0 ≤ window
-  pub few : (i : ℕ) → i < length starts → getD sizes i 0 ≤ 8192
+  pub ends : (i : ℕ) → i < length starts → getD starts i 0 + getD sizes i 0 ≤ 8192
   pub inside : (i : ℕ) → i < length starts → (getD starts i 0 + getD sizes i 0) * row ≤ samples

@@ -1,0 +1,4 @@
+pub mod Colours
+pub mod PixelLaws
+pub mod Sweep
+pub mod Sure

@@ -1,0 +1,98 @@
+-- `divide::divide_into` meets its contract: as `multiply_into`, with the quotient by the table's reciprocal. Assumes nothing.
+use Prim.Native.Nat.{ℕ, _*_, _-_, _<_, _≤_}
+use native.Mathlib.Omega.{arith}
+use lib.ListN.{length, getD}
+use borrow.Author.Needs.{needs}
+use Rattle.lists.proofs.TabLaws.{Written, written-none}
+use Rattle.alpha.specs.Lists.{componentAt}
+use Rattle.alpha.specs.Alpha.{divided}
+use Rattle.alpha.proofs.Colours.{divided-byte}
+use Rattle.alpha.proofs.PixelLaws.{divided-word, pixel-more, pixels-all}
+use Rattle.alpha.proofs.divide.divide_into.Statement.{statement}
+use Rattle.alpha.proofs.divide.divide_into.Tie as tie
+
+abbrev Inv-loop : tie.InvT-loop
+Inv-loop src dst₀ reciprocals n q₀ dst q = (q ≤ n) × Written (q * 4) (componentAt divided src) dst₀ dst
+
+abbrev μ-loop : tie.MeasureT-loop
+μ-loop src dst₀ reciprocals n q₀ dst q = n - q
+
+loop-holds : tie.Need-loop-holds Inv-loop μ-loop
+loop-holds c = (omega arith, written-none)
+
+mul-reciprocal-of : tie.Need-mul-reciprocal-of Inv-loop μ-loop
+mul-reciprocal-of c = search needs
+
+add-reciprocal-of : tie.Need-add-reciprocal-of Inv-loop μ-loop
+add-reciprocal-of c = search needs
+
+shared-slice-read-reciprocal-of : tie.Need-shared-slice-read-reciprocal-of Inv-loop μ-loop
+shared-slice-read-reciprocal-of c = search needs
+
+reciprocal-of-requires : tie.Need-reciprocal-of-requires Inv-loop μ-loop
+reciprocal-of-requires c κs = search needs
+
+mul-store4 : tie.Need-mul-store4 Inv-loop μ-loop
+mul-store4 c = search needs
+
+mul-load4 : tie.Need-mul-load4 Inv-loop μ-loop
+mul-load4 c = search needs
+
+load4-requires : tie.Need-load4-requires Inv-loop μ-loop
+load4-requires c κs = omega arith
+
+divided-pixel-requires : tie.Need-divided-pixel-requires Inv-loop μ-loop
+divided-pixel-requires c κs = search needs
+
+store4-requires : tie.Need-store4-requires Inv-loop μ-loop
+store4-requires c κs = omega arith
+
+add-q : tie.Need-add-q Inv-loop μ-loop
+add-q c = search needs
+
+loop-less : tie.Need-loop-less Inv-loop μ-loop
+loop-less c = search needs
+
+loop-again : tie.Need-loop-again Inv-loop μ-loop
+loop-again c =
+    let l = c .before .before .before .before .before .before .before .before .before in
+    let a = l .before .before .before .args in
+    let q = l .loop .q in
+    let small : (k : ℕ) → getD (a .src .now) k 0 < 256 = λ k. l .before .before .shared-slice-known .given k .fits in
+    let word = c .before .before .before .divided-pixel in
+    let recip = c .before .before .before .before .before .before .reciprocal-of in
+    let load = c .before .before .before .before .load4 in
+    let e = divided-word (a .src .now) small q (load .result) (word .result) (recip .result) (load .ensures) (recip .ensures .0) (word .ensures) in (
+      omega arith,
+      rw (c .before .before .store4 .ensures) (pixel-more (a .src .now) small q divided divided-byte (word .result) e (l .loop .inv .1) (omega arith)),
+    )
+
+same-length : tie.Need-same-length Inv-loop μ-loop
+same-length c = omega arith
+
+returns : tie.Need-returns Inv-loop μ-loop
+returns c =
+    let s = c .before .before .before .before in
+    pixels-all (c .before .loop .q) (length (s .args .src .now)) (c .before .loop .inv .1) (omega arith) (omega arith) (s .pre .0)
+
+pub divide-into-spec : {M : Type 1} → statement M
+divide-into-spec =
+    tie.close
+    (tie.spec
+    Inv-loop
+    μ-loop
+    loop-holds
+    mul-reciprocal-of
+    add-reciprocal-of
+    shared-slice-read-reciprocal-of
+    reciprocal-of-requires
+    mul-store4
+    mul-load4
+    load4-requires
+    divided-pixel-requires
+    store4-requires
+    add-q
+    loop-less
+    loop-again
+    same-length
+    returns)

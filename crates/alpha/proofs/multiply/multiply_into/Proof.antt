@@ -1,0 +1,81 @@
+-- `multiply::multiply_into` meets its contract: before turn q the first q pixels are written by the rule and the rest is as it was; a turn stores one
+-- pixel more (`pixel-more`). Assumes nothing.
+use Prim.Native.Nat.{ℕ, _*_, _-_, _<_, _≤_}
+use native.Mathlib.Omega.{arith}
+use lib.ListN.{length, getD}
+use borrow.Author.Needs.{needs}
+use Rattle.lists.proofs.TabLaws.{Written, written-none}
+use Rattle.alpha.specs.Alpha.{multiplied}
+use Rattle.alpha.specs.Lists.{componentAt}
+use Rattle.alpha.proofs.Colours.{multiplied-byte}
+use Rattle.alpha.proofs.PixelLaws.{multiplied-word, pixel-more, pixels-all}
+use Rattle.alpha.proofs.multiply.multiply_into.Statement.{statement}
+use Rattle.alpha.proofs.multiply.multiply_into.Tie as tie
+
+abbrev Inv-loop : tie.InvT-loop
+Inv-loop src dst₀ n q₀ dst q = (q ≤ n) × Written (q * 4) (componentAt multiplied src) dst₀ dst
+
+abbrev μ-loop : tie.MeasureT-loop
+μ-loop src dst₀ n q₀ dst q = n - q
+
+loop-holds : tie.Need-loop-holds Inv-loop μ-loop
+loop-holds c = (omega arith, written-none)
+
+mul-store4 : tie.Need-mul-store4 Inv-loop μ-loop
+mul-store4 c = search needs
+
+mul-load4 : tie.Need-mul-load4 Inv-loop μ-loop
+mul-load4 c = search needs
+
+load4-requires : tie.Need-load4-requires Inv-loop μ-loop
+load4-requires c κs = omega arith
+
+multiplied-pixel-requires : tie.Need-multiplied-pixel-requires Inv-loop μ-loop
+multiplied-pixel-requires c κs = search needs
+
+store4-requires : tie.Need-store4-requires Inv-loop μ-loop
+store4-requires c κs = omega arith
+
+add-q : tie.Need-add-q Inv-loop μ-loop
+add-q c = search needs
+
+loop-less : tie.Need-loop-less Inv-loop μ-loop
+loop-less c = search needs
+
+loop-again : tie.Need-loop-again Inv-loop μ-loop
+loop-again c =
+    let l = c .before .before .before .before .before .before .before in
+    let a = l .before .before .before .args in
+    let q = l .loop .q in
+    let small : (k : ℕ) → getD (a .src .now) k 0 < 256 = λ k. l .before .before .shared-slice-known .given k .fits in
+    let word = c .before .before .before .multiplied-pixel in
+    let e = multiplied-word (a .src .now) small q (c .before .before .before .before .load4 .result) (word .result) (c .before .before .before .before .load4 .ensures) (word .ensures) in (
+      omega arith,
+      rw (c .before .before .store4 .ensures) (pixel-more (a .src .now) small q multiplied multiplied-byte (word .result) e (l .loop .inv .1) (omega arith)),
+    )
+
+same-length : tie.Need-same-length Inv-loop μ-loop
+same-length c = omega arith
+
+returns : tie.Need-returns Inv-loop μ-loop
+returns c =
+    let s = c .before .before .before .before in
+    pixels-all (c .before .loop .q) (length (s .args .src .now)) (c .before .loop .inv .1) (omega arith) (omega arith) (s .pre .0)
+
+pub multiply-into-spec : {M : Type 1} → statement M
+multiply-into-spec =
+    tie.close
+    (tie.spec
+    Inv-loop
+    μ-loop
+    loop-holds
+    mul-store4
+    mul-load4
+    load4-requires
+    multiplied-pixel-requires
+    store4-requires
+    add-q
+    loop-less
+    loop-again
+    same-length
+    returns)

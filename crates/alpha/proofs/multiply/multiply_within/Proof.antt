@@ -1,0 +1,82 @@
+-- `multiply::multiply_within` meets its contract: as `multiply_into`; the pixel that a turn reads is not written yet (`still-word`). Assumes nothing.
+use mathlib.Core.Path.{_∙_, refl}
+use Prim.Native.Nat.{ℕ, _*_, _-_, _<_, _≤_}
+use native.Mathlib.Omega.{arith}
+use lib.ListN.{length, getD}
+use borrow.Author.Needs.{needs}
+use Rattle.lists.proofs.TabLaws.{Written, written-none}
+use Rattle.alpha.specs.Lists.{componentAt}
+use Rattle.alpha.specs.Alpha.{multiplied}
+use Rattle.alpha.proofs.Colours.{multiplied-byte}
+use Rattle.alpha.proofs.PixelLaws.{multiplied-word, pixel-more, pixels-all, still-word}
+use Rattle.alpha.proofs.multiply.multiply_within.Statement.{statement}
+use Rattle.alpha.proofs.multiply.multiply_within.Tie as tie
+
+abbrev Inv-loop : tie.InvT-loop
+Inv-loop pixels₀ n q₀ pixels q = (q ≤ n) × Written (q * 4) (componentAt multiplied pixels₀) pixels₀ pixels
+
+abbrev μ-loop : tie.MeasureT-loop
+μ-loop pixels₀ n q₀ pixels q = n - q
+
+loop-holds : tie.Need-loop-holds Inv-loop μ-loop
+loop-holds c = (omega arith, written-none)
+
+mul-store4 : tie.Need-mul-store4 Inv-loop μ-loop
+mul-store4 c = search needs
+
+mul-load4 : tie.Need-mul-load4 Inv-loop μ-loop
+mul-load4 c = search needs
+
+load4-requires : tie.Need-load4-requires Inv-loop μ-loop
+load4-requires c κs = omega arith
+
+multiplied-pixel-requires : tie.Need-multiplied-pixel-requires Inv-loop μ-loop
+multiplied-pixel-requires c κs = search needs
+
+store4-requires : tie.Need-store4-requires Inv-loop μ-loop
+store4-requires c κs = omega arith
+
+add-q : tie.Need-add-q Inv-loop μ-loop
+add-q c = search needs
+
+loop-less : tie.Need-loop-less Inv-loop μ-loop
+loop-less c = search needs
+
+loop-again : tie.Need-loop-again Inv-loop μ-loop
+loop-again c =
+    let l = c .before .before .before .before .before .before .before .before in
+    let a = l .before .before .args in
+    let q = l .loop .q in
+    let small : (k : ℕ) → getD (a .pixels .now) k 0 < 256 = λ k. l .before .slice-known .given k .fits in
+    let word = c .before .before .before .multiplied-pixel in
+    let load = c .before .before .before .before .load4 in
+    let e = multiplied-word (a .pixels .now) small q (load .result) (word .result) (load .ensures ∙ still-word q (l .loop .inv .1)) (word .ensures) in (
+      omega arith,
+      rw (c .before .before .store4 .ensures) (pixel-more (a .pixels .now) small q multiplied multiplied-byte (word .result) e (l .loop .inv .1) (omega arith)),
+    )
+
+same-length : tie.Need-same-length Inv-loop μ-loop
+same-length c = omega arith
+
+returns : tie.Need-returns Inv-loop μ-loop
+returns c =
+    let s = c .before .before .before in
+    pixels-all (c .before .loop .q) (length (s .args .pixels .now)) (c .before .loop .inv .1) (omega arith) (omega arith) refl
+
+pub multiply-within-spec : {M : Type 1} → statement M
+multiply-within-spec =
+    tie.close
+    (tie.spec
+    Inv-loop
+    μ-loop
+    loop-holds
+    mul-store4
+    mul-load4
+    load4-requires
+    multiplied-pixel-requires
+    store4-requires
+    add-q
+    loop-less
+    loop-again
+    same-length
+    returns)

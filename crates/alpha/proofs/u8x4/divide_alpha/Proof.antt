@@ -1,0 +1,32 @@
+-- `u8x4::divide_alpha` meets its contract: lists that pass the test are equally long and whole pixels, so `divide_into` has what it asks for.
+-- The table is the list of the rule's 256 values, which is computed here. Assumes nothing.
+use mathlib.Core.Path.{_∙_, refl, sym}
+use lib.ListN.{length}
+use borrow.Author.Needs.{needs}
+use Rattle.alpha.specs.Lists.{dividedList}
+use Rattle.alpha.proofs.PixelLaws.{lists-fit}
+use Rattle.alpha.proofs.u8x4.divide_alpha.Statement.{statement}
+use Rattle.alpha.proofs.u8x4.divide_alpha.Tie as tie
+
+bad-lists-requires : tie.Need-bad-lists-requires
+bad-lists-requires c κs = search needs
+
+returns : tie.Need-returns
+unfolding dividedList
+returns c = rw (sym (c .before .bad-lists .ensures) ∙ c .if1 .taken) (refl, refl)
+
+divide-into-requires : tie.Need-divide-into-requires
+divide-into-requires c κs =
+    let s = c .before .before .before .before .before .before in
+    let h = lists-fit (length (s .args .src .now)) (length (s .args .dst .now)) (sym (c .before .before .before .bad-lists .ensures) ∙ c .before .before .if1 .left) in
+    (h .0, (h .1, refl))
+
+same-length : tie.Need-same-length
+same-length c = search needs
+
+returns-2 : tie.Need-returns-2
+unfolding dividedList
+returns-2 c = rw (sym (c .before .before .before .before .before .before .bad-lists .ensures) ∙ c .before .before .before .before .before .if1 .left) (refl, c .before .before .divide-into .ensures)
+
+pub divide-alpha-spec : {M : Type 1} → statement M
+divide-alpha-spec = tie.close (tie.spec bad-lists-requires returns divide-into-requires same-length returns-2)

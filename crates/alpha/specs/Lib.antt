@@ -1,0 +1,4 @@
+pub mod Alpha
+pub mod Lists
+pub mod Words
+pub mod Steps

@@ -1,0 +1,40 @@
+-- Lists of pixels, four components each, alpha last: when they are refused, what the answer is, and what the lent list holds afterwards.
+-- Cited by the contracts of the four list functions. Definitions only. Assumes nothing.
+use mathlib.Core.Bool.{Bool, cond, not, _||_}
+use mathlib.Core.List.{List}
+use Prim.Native.Nat.{ℕ, _+_, _*_, _/_, _%_}
+use lib.Dec.{eqb}
+use lib.ListN.{length, getD}
+use Rattle.lists.specs.Tab.{tab}
+use Rattle.refusal.specs.declared.Refusal.the-variants.{DoesNotFit}
+use Rattle.refusal.specs.Refusal.{numberOf as refusalNumber}
+use Rattle.alpha.specs.Alpha.{multiplied, divided}
+use Rattle.alpha.specs.declared.Applied.{Applied}
+use Rattle.alpha.specs.declared.Applied.the-variants.{Done, Refused}
+
+-- the lists' lengths are unequal, or no multiple of 4
+abbrev pub badLists : ℕ → ℕ → Bool
+badLists src dst = not (eqb src dst) || not (eqb (src % 4) 0)
+
+-- the answer: No. 10 for such lists, else done
+abbrev pub appliedTo : List ℕ → List ℕ → Applied
+appliedTo src dst = cond (badLists (length src) (length dst)) (Refused DoesNotFit) Done
+
+-- 01's number of an answer; no answer has a number beside it
+abbrev pub numberOf : Applied → ℕ
+numberOf Done = 0
+numberOf (Refused refusal) = refusalNumber refusal
+
+-- component k of the result: alpha is kept, a colour goes with the alpha of its own pixel
+abbrev pub componentAt : (ℕ → ℕ → ℕ) → List ℕ → ℕ → ℕ
+componentAt op src k = cond (eqb (k % 4) 3) (getD src k 0) (op (getD src k 0) (getD src (k / 4 * 4 + 3) 0))
+
+-- the lent list afterwards: unchanged where refused, else every pixel of src
+abbrev appliedList : (ℕ → ℕ → ℕ) → List ℕ → List ℕ → List ℕ
+appliedList op src dst = cond (badLists (length src) (length dst)) dst (tab 0 (length src) (componentAt op src))
+
+unfoldable pub multipliedList : List ℕ → List ℕ → List ℕ
+multipliedList = appliedList multiplied
+
+unfoldable pub dividedList : List ℕ → List ℕ → List ℕ
+dividedList = appliedList divided

@@ -1,0 +1,65 @@
+// Lists of pixels, as in the Rust's alpha/u8x4/native.rs.
+use crate::Applied;
+use crate::divide::divide_into;
+use crate::divide::divide_within;
+use crate::multiply::multiply_into;
+use crate::multiply::multiply_within;
+use crate::recip::RECIP_ALPHA;
+use refusal::Refusal;
+ghost use mathlib.Core.Path.{_≡_};
+ghost use Rattle.alpha.specs.Lists.{badLists, appliedTo, multipliedList, dividedList};
+
+// Whether two lists are not equally long, or no multiple of four components long.
+fn bad_lists(src: usize, dst: usize) -> bool
+    ensures answer { λ r. ⌜ r ≡ badLists src dst ⌝ }
+{
+    (src != dst) | (src % 4 != 0)
+}
+
+// Each pixel of src, its colours multiplied by its alpha, into dst.
+pub fn multiply_alpha(src: &[u8], dst: &mut [u8]) -> Applied
+    ensures answer { λ r. ⌜ r ≡ appliedTo (now (src .entry)) (now (dst .entry)) ⌝ }
+    ensures written { λ _. ⌜ now (dst .exit) ≡ multipliedList (now (src .entry)) (now (dst .entry)) ⌝ }
+{
+    if bad_lists(src.len(), dst.len()) {
+        return Applied::Refused(Refusal::DoesNotFit);
+    }
+    multiply_into(src, dst);
+    Applied::Done
+}
+
+// Each pixel's colours multiplied by its alpha, in place.
+pub fn multiply_alpha_inplace(pixels: &mut [u8]) -> Applied
+    ensures answer { λ r. ⌜ r ≡ appliedTo (now (pixels .entry)) (now (pixels .entry)) ⌝ }
+    ensures written { λ _. ⌜ now (pixels .exit) ≡ multipliedList (now (pixels .entry)) (now (pixels .entry)) ⌝ }
+{
+    if bad_lists(pixels.len(), pixels.len()) {
+        return Applied::Refused(Refusal::DoesNotFit);
+    }
+    multiply_within(pixels);
+    Applied::Done
+}
+
+// Each pixel of src, its colours divided by its alpha, into dst.
+pub fn divide_alpha(src: &[u8], dst: &mut [u8]) -> Applied
+    ensures answer { λ r. ⌜ r ≡ appliedTo (now (src .entry)) (now (dst .entry)) ⌝ }
+    ensures written { λ _. ⌜ now (dst .exit) ≡ dividedList (now (src .entry)) (now (dst .entry)) ⌝ }
+{
+    if bad_lists(src.len(), dst.len()) {
+        return Applied::Refused(Refusal::DoesNotFit);
+    }
+    divide_into(src, dst, &RECIP_ALPHA);
+    Applied::Done
+}
+
+// Each pixel's colours divided by its alpha, in place.
+pub fn divide_alpha_inplace(pixels: &mut [u8]) -> Applied
+    ensures answer { λ r. ⌜ r ≡ appliedTo (now (pixels .entry)) (now (pixels .entry)) ⌝ }
+    ensures written { λ _. ⌜ now (pixels .exit) ≡ dividedList (now (pixels .entry)) (now (pixels .entry)) ⌝ }
+{
+    if bad_lists(pixels.len(), pixels.len()) {
+        return Applied::Refused(Refusal::DoesNotFit);
+    }
+    divide_within(pixels, &RECIP_ALPHA);
+    Applied::Done
+}

@@ -1,0 +1,2 @@
+pub mod Precision
+pub mod Answer

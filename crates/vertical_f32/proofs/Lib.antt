@@ -1,0 +1,11 @@
+pub mod Magic
+pub mod Fast
+pub mod Decided
+pub mod SumLaws
+pub mod Lanes
+pub mod WeightSize
+pub mod Turns
+pub mod Flags
+pub mod Values
+pub mod Judged
+pub mod Sure

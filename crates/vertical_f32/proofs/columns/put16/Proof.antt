@@ -1,0 +1,83 @@
+-- After t turns t samples stand behind column j, and none before it changed. Assumes nothing.
+use mathlib.Core.Path.{_≡_, refl}
+use Prim.Native.Nat.{ℕ, _-_, _≤_, _<_, _+_}
+use native.Mathlib.Omega.{arith}
+use native.Mathlib.Nat.{not-suc-le-zero}
+use lib.ListN.{length, getD, length-set}
+use lib.Ieee.{nan}
+use Rattle.lists.proofs.StoreLaws.{set-shift, set-low}
+use Rattle.numbers.specs.Whole.{narrow}
+use Rattle.vertical_f32.proofs.columns.put16.Statement.{statement}
+use Rattle.vertical_f32.proofs.columns.put16.Tie as tie
+
+abbrev Inv-loop : tie.InvT-loop
+Inv-loop out₀ j ss t₀ out t =
+    (t ≤ 16)
+    × (length out ≡ length out₀)
+    × ((x : ℕ) → x < t → getD out (j + x) nan ≡ narrow (getD ss x nan))
+    × ((x : ℕ) → x < j → getD out x nan ≡ getD out₀ x nan)
+
+abbrev μ-loop : tie.MeasureT-loop
+μ-loop out₀ j ss t₀ out t = 16 - t
+
+loop-holds : tie.Need-loop-holds Inv-loop μ-loop
+loop-holds c = (omega arith, refl, (λ x h. absurd (not-suc-le-zero h)), (λ x h. refl))
+
+mul-narrow : tie.Need-mul-narrow Inv-loop μ-loop
+mul-narrow c = omega arith
+
+array-read-narrow : tie.Need-array-read-narrow Inv-loop μ-loop
+array-read-narrow c = omega arith
+
+narrow-requires : tie.Need-narrow-requires Inv-loop μ-loop
+narrow-requires c κs = c .before .before .before .pre .0 (c .before .loop .t) (omega arith)
+
+add-out : tie.Need-add-out Inv-loop μ-loop
+add-out c = omega arith
+
+mul-out : tie.Need-mul-out Inv-loop μ-loop
+mul-out c = omega arith
+
+slice-write-out : tie.Need-slice-write-out Inv-loop μ-loop
+slice-write-out c = omega arith
+
+add-t : tie.Need-add-t Inv-loop μ-loop
+add-t c = omega arith
+
+loop-less : tie.Need-loop-less Inv-loop μ-loop
+loop-less c = omega arith
+
+loop-again : tie.Need-loop-again Inv-loop μ-loop
+loop-again c =
+    let l = c .before .before in
+    let a = l .before .before .args in (
+      omega arith,
+      simp length-set (l .loop .inv .1),
+      set-shift (l .loop .out) (l .loop .t) _ nan (λ (x : ℕ). narrow (getD (a .t1) x nan)) (a .j) (omega arith) (c .narrow .ensures) (l .loop .inv .2),
+      set-low (l .loop .out) (a .j + l .loop .t) _ nan (λ (x : ℕ). getD (a .out .now) x nan) (a .j) (omega arith) (l .loop .inv .3),
+    )
+
+same-length : tie.Need-same-length Inv-loop μ-loop
+same-length c = omega arith
+
+returns : tie.Need-returns Inv-loop μ-loop
+returns c = ((λ t h. c .before .loop .inv .2 t (omega arith)), c .before .loop .inv .3)
+
+pub put16-spec : {M : Type 1} → statement M
+put16-spec =
+    tie.close
+    (tie.spec
+    Inv-loop
+    μ-loop
+    loop-holds
+    mul-narrow
+    array-read-narrow
+    narrow-requires
+    add-out
+    mul-out
+    slice-write-out
+    add-t
+    loop-less
+    loop-again
+    same-length
+    returns)

@@ -1,0 +1,83 @@
+-- A row written through its part of the output: what stands before the part is kept. Assumes nothing.
+use borrow.Author.Needs.{needs}
+use mathlib.Core.Path.{_≡_, _∙_, refl}
+use Prim.Native.Nat.{_-_, _≤_, _+_}
+use native.Mathlib.Omega.{arith}
+use lib.ListN.{length}
+use lib.Ieee.{nan}
+use Rattle.lists.proofs.StoreLaws.{part-size, part-here, part-low}
+use Rattle.vertical_f32.proofs.rows.place.Statement.{statement}
+use Rattle.vertical_f32.proofs.rows.place.Tie as tie
+
+add-e : tie.Need-add-e
+add-e c = search needs
+
+add-f : tie.Need-add-f
+add-f c = search needs
+
+mul-fill : tie.Need-mul-fill
+mul-fill c = search needs
+
+sub-fill : tie.Need-sub-fill
+sub-fill c = search needs
+
+part-fill-start : tie.Need-part-fill-start
+part-fill-start c = search needs
+
+part-fill-end : tie.Need-part-fill-end
+part-fill-end c = search needs
+
+mul-fill-2 : tie.Need-mul-fill-2
+mul-fill-2 c = search needs
+
+sub-fill-2 : tie.Need-sub-fill-2
+sub-fill-2 c = search needs
+
+part-fill-start-2 : tie.Need-part-fill-start-2
+part-fill-start-2 c = search needs
+
+part-fill-end-2 : tie.Need-part-fill-end-2
+part-fill-end-2 c = search needs
+
+fill-requires : tie.Need-fill-requires
+fill-requires c κs =
+    let a = c .before .before .before .before .before .args in
+    let q = c .before .before .before .before .before .pre in
+    let d : a .a + a .size - a .a ≡ a .size = omega arith in
+    let lo = part-size (a .out .now) (a .o) (a .count) (q .0 .2) in
+    (rw (lo, d) (q .1), omega (arith, lo, q .0 .0))
+
+same-length : tie.Need-same-length
+same-length c = search needs
+
+returns : tie.Need-returns
+returns c =
+    let a = c .before .before .before .before .before .before .before .before .args in
+    let q = c .before .before .before .before .before .before .before .before .pre in
+    let n = c .before .before .fill in
+    let lw = part-size (a .ws .now) (a .a) (a .size) (q .0 .1) in
+    let lo = part-size (a .out .now) (a .o) (a .count) (q .0 .2) in
+    let d : a .a + a .size - a .a ≡ a .size = omega arith in
+    let f : a .o + (a .o + a .count - a .o) ≤ length (a .out .now) = omega (arith, q .0 .2) in
+    let s : length (n .last .1 .1 .1 .1 .0) ≡ a .o + a .count - a .o = n .kept .1 .1 .1 .1 .0 ∙ omega (arith, lo) in (
+      (λ t h. part-here nan (a .out .now) (n .last .1 .1 .1 .1 .0) (a .o) (a .o + a .count - a .o) f s t (omega arith) ∙ (n .ensures t (omega (arith, lo)) ∙ rw (lw, d) refl)),
+      part-low nan (a .out .now) (n .last .1 .1 .1 .1 .0) (a .o) (a .o + a .count - a .o) f s,
+    )
+
+pub place-spec : {M : Type 1} → statement M
+place-spec =
+    tie.close
+    (tie.spec
+    add-e
+    add-f
+    mul-fill
+    sub-fill
+    part-fill-start
+    part-fill-end
+    mul-fill-2
+    sub-fill-2
+    part-fill-start-2
+    part-fill-end-2
+    fill-requires
+    same-length
+    returns)

@@ -1,0 +1,14 @@
+-- The widened sample is the sample. Assumes nothing.
+use mathlib.Core.Path.{refl}
+use borrow.Author.Needs.{needs}
+use Rattle.vertical_f32.proofs.sums.step.Statement.{statement}
+use Rattle.vertical_f32.proofs.sums.step.Tie as tie
+
+widen-requires : tie.Need-widen-requires
+widen-requires c κs = search needs
+
+returns : tie.Need-returns
+returns c = rw (c .widen .ensures) refl
+
+pub step-spec : {M : Type 1} → statement M
+step-spec = tie.close (tie.spec widen-requires returns)

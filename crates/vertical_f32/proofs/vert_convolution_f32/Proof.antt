@@ -1,0 +1,121 @@
+-- Each way out is one lemma of `Judged`, at the set that the lists make; what the judge and the scans said gives `rows` its premises. Assumes nothing.
+use borrow.Author.Needs.{needs}
+use borrow.Author.Tests.{not-false}
+use lib.Ieee.{Float}
+use lib.ListN.{length}
+use Rattle.lists.proofs.BoolLaws.{asked-bad, asked-good}
+use Rattle.vertical.proofs.Answers.{shaped}
+use Rattle.vertical.proofs.Turns.{ready}
+use Rattle.vertical.specs.F32.{badWeights, badSamples}
+use Rattle.vertical.specs.Frame.{sizeBad, shapeBad}
+use Rattle.windows.specs.Set.{Set, setOf}
+use Rattle.vertical_f32.proofs.Flags.{weights-said, samples-said}
+use Rattle.vertical_f32.proofs.Judged.{bad-size, bad-shape, bad-weights, bad-samples, done}
+use Rattle.vertical_f32.proofs.vert_convolution_f32.Statement.{statement}
+use Rattle.vertical_f32.proofs.vert_convolution_f32.Tie as tie
+
+size-fits-requires : tie.Need-size-fits-requires
+size-fits-requires c κs = search needs
+
+returns : tie.Need-returns
+returns c =
+    let a = c .before .before .before .before .before .before .before .args in
+    let s : Set Float = setOf (a .lines) (a .window) (a .weights .now) (a .starts .now) (a .sizes .now) 0 in
+    bad-size s (a .src .now) (a .row) (a .first) (a .count) (a .out .now) (asked-bad (sizeBad s (a .row)) (c .before .size-fits .ensures) (c .if1 .taken))
+
+shape-fits-requires : tie.Need-shape-fits-requires
+shape-fits-requires c κs = search needs
+
+returns-2 : tie.Need-returns-2
+returns-2 c =
+    let a = c .before .before .before .before .before .before .before .before .before .args in
+    let s : Set Float = setOf (a .lines) (a .window) (a .weights .now) (a .starts .now) (a .sizes .now) 0 in
+    bad-shape s (a .src .now) (a .row) (a .first) (a .count) (a .out .now)
+    (asked-good (sizeBad s (a .row)) (c .before .before .before .size-fits .ensures) (c .before .before .if1 .left))
+    (asked-bad (shapeBad s (length (a .src .now)) (a .row) (a .first) (a .count) (length (a .out .now))) (c .before .shape-fits .ensures) (c .if2 .taken))
+
+weights-fit-requires : tie.Need-weights-fit-requires
+weights-fit-requires c κs =
+    let a = c .before .before .before .before .before .before .before .before .before .args in
+    let s : Set Float = setOf (a .lines) (a .window) (a .weights .now) (a .starts .now) (a .sizes .now) 0 in
+    let r = ready s (length (a .src .now)) (a .row) (a .first) (a .count) (length (a .out .now))
+    (shaped s (length (a .src .now)) (a .row) (a .first) (a .count) (length (a .out .now))
+    (asked-good (sizeBad s (a .row)) (c .before .before .before .size-fits .ensures) (c .before .before .if1 .left))
+    (asked-good (shapeBad s (length (a .src .now)) (a .row) (a .first) (a .count) (length (a .out .now))) (c .before .shape-fits .ensures) (c .if2 .left))) in
+    ((r .pairs, r .full, r .many, r .wide), r .small)
+
+returns-3 : tie.Need-returns-3
+returns-3 c =
+    let a = c .before .before .before .before .before .before .before .before .before .before .before .args in
+    let s : Set Float = setOf (a .lines) (a .window) (a .weights .now) (a .starts .now) (a .sizes .now) 0 in
+    bad-weights s (a .src .now) (a .row) (a .first) (a .count) (a .out .now)
+    (asked-good (sizeBad s (a .row)) (c .before .before .before .before .before .size-fits .ensures) (c .before .before .before .before .if1 .left))
+    (asked-good (shapeBad s (length (a .src .now)) (a .row) (a .first) (a .count) (length (a .out .now))) (c .before .before .before .shape-fits .ensures) (c .before .before .if2 .left))
+    (asked-bad (badWeights s) (weights-said s (c .before .weights-fit .result) (c .before .weights-fit .ensures .0) (c .before .weights-fit .ensures .1)) (c .if3 .taken))
+
+samples-fit-requires : tie.Need-samples-fit-requires
+samples-fit-requires c κs =
+    let a = c .before .before .before .before .before .before .before .before .before .before .before .args in
+    let s : Set Float = setOf (a .lines) (a .window) (a .weights .now) (a .starts .now) (a .sizes .now) 0 in
+    let r = ready s (length (a .src .now)) (a .row) (a .first) (a .count) (length (a .out .now))
+    (shaped s (length (a .src .now)) (a .row) (a .first) (a .count) (length (a .out .now))
+    (asked-good (sizeBad s (a .row)) (c .before .before .before .before .before .size-fits .ensures) (c .before .before .before .before .if1 .left))
+    (asked-good (shapeBad s (length (a .src .now)) (a .row) (a .first) (a .count) (length (a .out .now))) (c .before .before .before .shape-fits .ensures) (c .before .before .if2 .left))) in
+    ((r .narrow, r .fit, r .pairs), (r .ends, r .inside))
+
+returns-4 : tie.Need-returns-4
+returns-4 c =
+    let a = c .before .before .before .before .before .before .before .before .before .before .before .before .before .args in
+    let s : Set Float = setOf (a .lines) (a .window) (a .weights .now) (a .starts .now) (a .sizes .now) 0 in
+    bad-samples s (a .src .now) (a .row) (a .first) (a .count) (a .out .now)
+    (asked-good (sizeBad s (a .row)) (c .before .before .before .before .before .before .before .size-fits .ensures) (c .before .before .before .before .before .before .if1 .left))
+    (asked-good (shapeBad s (length (a .src .now)) (a .row) (a .first) (a .count) (length (a .out .now))) (c .before .before .before .before .before .shape-fits .ensures) (c .before .before .before .before .if2 .left))
+    (asked-good (badWeights s) (weights-said s (c .before .before .before .weights-fit .result) (c .before .before .before .weights-fit .ensures .0) (c .before .before .before .weights-fit .ensures .1)) (c .before .before .if3 .left))
+    (asked-bad (badSamples s (a .src .now) (a .row) (a .first) (a .count)) (samples-said s (a .src .now) (a .row) (a .first) (a .count) (c .before .samples-fit .result) (c .before .samples-fit .ensures .0) (c .before .samples-fit .ensures .1)) (c .if4 .taken))
+
+rows-requires : tie.Need-rows-requires
+rows-requires c κs =
+    let a = c .before .before .before .before .before .before .before .before .before .before .before .before .before .before .args in
+    let s : Set Float = setOf (a .lines) (a .window) (a .weights .now) (a .starts .now) (a .sizes .now) 0 in (
+      ready s (length (a .src .now)) (a .row) (a .first) (a .count) (length (a .out .now))
+          (shaped s (length (a .src .now)) (a .row) (a .first) (a .count) (length (a .out .now))
+          (asked-good (sizeBad s (a .row)) (c .before .before .before .before .before .before .before .before .size-fits .ensures) (c .before .before .before .before .before .before .before .if1 .left))
+          (asked-good (shapeBad s (length (a .src .now)) (a .row) (a .first) (a .count) (length (a .out .now))) (c .before .before .before .before .before .before .shape-fits .ensures) (c .before .before .before .before .before .if2 .left))),
+      (
+        c .before .before .before .before .weights-fit .ensures .0 (not-false (c .before .before .before .before .weights-fit .result) (c .before .before .before .if3 .left)),
+        c .before .before .samples-fit .ensures .0 (not-false (c .before .before .samples-fit .result) (c .before .if4 .left)),
+      ),
+    )
+
+same-length : tie.Need-same-length
+same-length c = search needs
+
+returns-5 : tie.Need-returns-5
+returns-5 c =
+    let a = c .before .before .before .before .before .before .before .before .before .before .before .before .before .before .before .before .before .args in
+    let s : Set Float = setOf (a .lines) (a .window) (a .weights .now) (a .starts .now) (a .sizes .now) 0 in
+    let r = c .before .before .rows in
+    done s (a .src .now) (a .row) (a .first) (a .count) (a .out .now)
+    (asked-good (sizeBad s (a .row)) (c .before .before .before .before .before .before .before .before .before .before .before .size-fits .ensures) (c .before .before .before .before .before .before .before .before .before .before .if1 .left))
+    (asked-good (shapeBad s (length (a .src .now)) (a .row) (a .first) (a .count) (length (a .out .now))) (c .before .before .before .before .before .before .before .before .before .shape-fits .ensures) (c .before .before .before .before .before .before .before .before .if2 .left))
+    (asked-good (badWeights s) (weights-said s (c .before .before .before .before .before .before .before .weights-fit .result) (c .before .before .before .before .before .before .before .weights-fit .ensures .0) (c .before .before .before .before .before .before .before .weights-fit .ensures .1)) (c .before .before .before .before .before .before .if3 .left))
+    (asked-good (badSamples s (a .src .now) (a .row) (a .first) (a .count)) (samples-said s (a .src .now) (a .row) (a .first) (a .count) (c .before .before .before .before .before .samples-fit .result) (c .before .before .before .before .before .samples-fit .ensures .0) (c .before .before .before .before .before .samples-fit .ensures .1)) (c .before .before .before .before .if4 .left))
+    (r .last .1 .1 .1 .1 .1 .1 .1 .1 .0)
+    (r .kept .1 .1 .1 .1 .1 .1 .1 .1 .0)
+    (r .ensures)
+
+pub vert-convolution-f32-spec : {M : Type 1} → statement M
+vert-convolution-f32-spec =
+    tie.close
+    (tie.spec
+    size-fits-requires
+    returns
+    shape-fits-requires
+    returns-2
+    weights-fit-requires
+    returns-3
+    samples-fit-requires
+    returns-4
+    rows-requires
+    same-length
+    returns-5)

@@ -1,0 +1,3 @@
+pub mod Column
+pub mod Narrowing
+pub mod Scan

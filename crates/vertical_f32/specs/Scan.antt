@@ -1,0 +1,45 @@
+-- What the scans for No. 12 look for. A zero times a finite sample is a zero, times another a NaN, and a NaN stays: so a lane that starts at zero is a `flag`
+-- (zero or NaN), and is a zero at the end exactly when every sample was finite. Cited by the contracts of the scans. Definitions only. Assumes nothing.
+use mathlib.Core.Bool.{Bool, true, false}
+use mathlib.Core.List.{List}
+use Prim.Native.Nat.{ℕ, _+_, _*_, _^_, _<_, _≤_}
+use lib.Dec.{T, eqb}
+use lib.ListN.{length, getD}
+use lib.Ieee.{Float, nan, inf, fin}
+use lib.Ieee.Scale.{finite}
+use Rattle.floats.specs.Within.{AtMost}
+
+abbrev pub isZero : Float → Bool
+isZero nan = false
+isZero (inf s) = false
+isZero (fin s m e) = eqb m 0
+
+abbrev pub flag : Float → Bool
+flag nan = true
+flag (inf s) = false
+flag (fin s m e) = eqb m 0
+
+-- sixteen lanes of them
+abbrev pub Zeros : List Float → Type 0
+Zeros zz = (t : ℕ) → t < 16 → T (isZero (getD zz t nan))
+
+abbrev pub Flags : List Float → Type 0
+Flags zz = (t : ℕ) → t < 16 → T (flag (getD zz t nan))
+
+-- the samples at `at`, `at + 1`, .. from a on below e are at most 2^128 in size, and are finite
+abbrev pub Small : List Float → ℕ → ℕ → ℕ → Type 0
+Small src at a e = (t : ℕ) → a ≤ t → t < e → AtMost (getD src (at + t) nan) (2 ^ 128)
+
+abbrev pub Finite : List Float → ℕ → ℕ → ℕ → Type 0
+Finite src at a e = (t : ℕ) → a ≤ t → t < e → T (finite (getD src (at + t) nan))
+
+-- every sample in use is finite; as the sums need them, at most 2^128 in size
+abbrev pub Samples : List Float → ℕ → ℕ → ℕ → List ℕ → List ℕ → Type 0
+Samples src row first count starts sizes = (i : ℕ) → i < length starts → (k : ℕ) → k < getD sizes i 0 → (j : ℕ) → j < count → T (finite (getD src ((getD starts i 0 + k) * row + first + j) nan))
+
+abbrev pub Lights : List Float → ℕ → ℕ → ℕ → List ℕ → List ℕ → Type 0
+Lights src row first count starts sizes = (i : ℕ) → i < length starts → (k : ℕ) → k < getD sizes i 0 → (j : ℕ) → j < count → AtMost (getD src ((getD starts i 0 + k) * row + first + j) nan) (2 ^ 128)
+
+-- every weight in use is at most 2^64 in size
+abbrev pub Weights : List ℕ → List ℕ → ℕ → List Float → Type 0
+Weights starts sizes window weights = (i : ℕ) → i < length starts → (k : ℕ) → k < getD sizes i 0 → AtMost (getD weights (i * window + k) nan) (2 ^ 64)

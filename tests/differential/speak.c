@@ -1,0 +1,430 @@
+/* The C interface (include/mirror.h) behind the lines of the protocol, so that `run --ask` compares it with the oracle as it
+ * compares the program `ask`. Every list, lent or handed in, stands between guard bytes, which are looked at after each call; a
+ * list that is handed in to be read is compared with what it was. A byte that was touched is answered by `touched`. */
+#include <inttypes.h>
+#include <stdio.h>
+#include <stdlib.h>
+#include <string.h>
+
+#include "mirror.h"
+
+enum { WORDS = 16, LONGEST = 262143, GUARD = 64, LISTS = 8 };
+#define LARGEST 1048576u
+
+/* A list between guards; `was` is a copy of one that is only read. */
+struct list {
+    uint8_t *whole, *was;
+    size_t count, width;
+};
+
+static struct list lists[LISTS];
+static int used;
+
+static void *at(const struct list *l)
+{
+    return l->whole + GUARD;
+}
+
+static struct list *fresh(size_t count, size_t width)
+{
+    struct list *l = &lists[used++];
+    l->count = count;
+    l->width = width;
+    l->was = NULL;
+    l->whole = malloc(count * width + 2 * GUARD);
+    if (!l->whole)
+        abort();
+    memset(l->whole, 0xa5, GUARD);
+    memset(l->whole + GUARD + count * width, 0x5a, GUARD);
+    return l;
+}
+
+static int untouched(void)
+{
+    int good = 1;
+    for (int i = 0; i < used; i++) {
+        const struct list *l = &lists[i];
+        size_t bytes = l->count * l->width;
+        for (int k = 0; k < GUARD; k++)
+            good &= l->whole[k] == 0xa5 && l->whole[GUARD + bytes + k] == 0x5a;
+        if (l->was)
+            good &= memcmp(l->was, at(l), bytes) == 0;
+    }
+    return good;
+}
+
+static void forget(void)
+{
+    while (used > 0) {
+        used--;
+        free(lists[used].whole);
+        free(lists[used].was);
+    }
+}
+
+/* Fields. Each answers whether the word is one. */
+static int number(const char *w, uint64_t most, uint64_t *n)
+{
+    *n = 0;
+    if (!*w)
+        return 0;
+    for (; *w; w++) {
+        if (*w < '0' || *w > '9' || *n > (UINT64_MAX - 9) / 10)
+            return 0;
+        *n = *n * 10 + (uint64_t)(*w - '0');
+        if (*n > most)
+            return 0;
+    }
+    return 1;
+}
+
+static int u32_of(const char *w, uint32_t *n)
+{
+    uint64_t x;
+    int good = number(w, UINT32_MAX, &x);
+    *n = (uint32_t)x;
+    return good;
+}
+
+static int integer(const char *w, int64_t least, int64_t most, int64_t *n)
+{
+    uint64_t x;
+    int minus = *w == '-', good = number(w + minus, (uint64_t)(minus ? -least : most), &x);
+    *n = minus ? -(int64_t)x : (int64_t)x;
+    return good && !(minus && x == 0);
+}
+
+static int hex(const char *w, int digits, uint64_t *n)
+{
+    *n = 0;
+    for (int i = 0; i < digits; i++) {
+        char c = w[i];
+        if (c >= '0' && c <= '9')
+            *n = *n * 16 + (uint64_t)(c - '0');
+        else if (c >= 'a' && c <= 'f')
+            *n = *n * 16 + (uint64_t)(c - 'a' + 10);
+        else
+            return 0;
+    }
+    return w[digits] == 0;
+}
+
+static int f64_of(const char *w, double *x)
+{
+    uint64_t b;
+    int good = hex(w, 16, &b);
+    memcpy(x, &b, 8);
+    return good;
+}
+
+/* One element of a list: c bytes, i and h signed, w and u unsigned of 16 and 32 bits, d and f floats. */
+static int element(char type, const char *w, void *to)
+{
+    uint64_t u = 0;
+    int64_t i = 0;
+    int good = 0;
+    switch (type) {
+    case 'c': good = number(w, 255, &u); *(uint8_t *)to = (uint8_t)u; break;
+    case 'w': good = number(w, 65535, &u); *(uint16_t *)to = (uint16_t)u; break;
+    case 'u': good = number(w, UINT32_MAX, &u); *(uint32_t *)to = (uint32_t)u; break;
+    case 'h': good = integer(w, INT16_MIN, INT16_MAX, &i); *(int16_t *)to = (int16_t)i; break;
+    case 'i': good = integer(w, INT32_MIN, INT32_MAX, &i); *(int32_t *)to = (int32_t)i; break;
+    case 'd': good = hex(w, 16, &u); memcpy(to, &u, 8); break;
+    case 'f': good = hex(w, 8, &u); u = (uint32_t)u; memcpy(to, &u, 4); break;
+    }
+    return good;
+}
+
+static size_t width_of(char type)
+{
+    return type == 'c' ? 1 : type == 'w' || type == 'h' ? 2 : type == 'd' ? 8 : 4;
+}
+
+static struct list *read_list(char type, char *w, int kept)
+{
+    size_t count = strcmp(w, "-") != 0;
+    for (char *c = w; *c; c++)
+        count += *c == ',';
+    struct list *l = fresh(count, width_of(type));
+    for (size_t i = 0; i < count; i++) {
+        char *end = strchr(w, ',');
+        if (end)
+            *end = 0;
+        if (!element(type, w, (uint8_t *)at(l) + i * l->width))
+            return NULL;
+        w = end ? end + 1 : w;
+    }
+    if (kept) {
+        l->was = malloc(count * l->width + 1);
+        memcpy(l->was, at(l), count * l->width);
+    }
+    return l;
+}
+
+static struct list *lend(char type, const char *w)
+{
+    uint64_t n;
+    if (!number(w, LARGEST, &n))
+        return NULL;
+    struct list *l = fresh(n, width_of(type));
+    for (size_t i = 0; i < n; i++) {
+        unsigned v = (unsigned)((7 * i + 3) % 251);
+        void *to = (uint8_t *)at(l) + i * l->width;
+        if (type == 'd')
+            *(double *)to = v;
+        else if (type == 'f')
+            *(float *)to = (float)v;
+        else if (l->width == 1)
+            *(uint8_t *)to = (uint8_t)v;
+        else if (l->width == 2)
+            *(uint16_t *)to = (uint16_t)v;
+        else
+            *(uint32_t *)to = v;
+    }
+    return l;
+}
+
+/* Shown after a space: x is bytes as hex. */
+static void show(char type, const struct list *l)
+{
+    putchar(' ');
+    if (l->count == 0)
+        putchar('-');
+    for (size_t i = 0; i < l->count; i++) {
+        const void *from = (const uint8_t *)at(l) + i * l->width;
+        uint64_t bits = 0;
+        if (i > 0 && type != 'x')
+            putchar(',');
+        memcpy(&bits, from, l->width);
+        switch (type) {
+        case 'd': printf("%016" PRIx64, bits); break;
+        case 'f': printf("%08" PRIx64, bits); break;
+        case 'x': printf("%02" PRIx64, bits); break;
+        case 'h': printf("%d", *(const int16_t *)from); break;
+        case 'i': printf("%" PRId32, *(const int32_t *)from); break;
+        default: printf("%" PRIu64, bits); break;
+        }
+    }
+}
+
+static int kind_of(const char *w, uint32_t *kind)
+{
+    static const char *const names[] = {"box", "bilinear", "catmullrom", "mitchell"};
+    for (*kind = 0; *kind < 4; ++*kind)
+        if (strcmp(w, names[*kind]) == 0)
+            return 1;
+    return 0;
+}
+
+static uint64_t bits(double x)
+{
+    uint64_t b;
+    memcpy(&b, &x, 8);
+    return x != x ? 0x7ff8000000000000u : b;
+}
+
+#define OR_BAD(test) if (!(test)) return 0
+
+static int helper(char **w)
+{
+    uint64_t x;
+    if (strcmp(w[0], "widen") == 0) {
+        OR_BAD(hex(w[1], 8, &x));
+        return printf("%016" PRIx64, mirror_widen((uint32_t)x));
+    }
+    OR_BAD(hex(w[1], 16, &x));
+    if (strcmp(w[0], "narrow") == 0)
+        return printf("%08" PRIx32, mirror_narrow(x));
+    return printf("%016" PRIx64, w[0][0] == 'a' ? mirror_abs(x) : w[0][0] == 'f' ? mirror_floor(x) : w[0][0] == 'c' ? mirror_ceil(x) : mirror_round(x));
+}
+
+static int clip8(char **w)
+{
+    int64_t v;
+    OR_BAD(integer(w[1], INT32_MIN, INT32_MAX, &v));
+    return printf("%u", mirror_clip8((int32_t)v));
+}
+
+static int filter(char **w)
+{
+    uint32_t kind;
+    double x, weight = 0;
+    OR_BAD(kind_of(w[1], &kind) && f64_of(w[2], &x));
+    OR_BAD(mirror_filter(kind, x, &weight) == 0);
+    return printf("%016" PRIx64, bits(weight));
+}
+
+static int crop(char **w)
+{
+    uint32_t a, b;
+    double l, t, wide, high;
+    OR_BAD(u32_of(w[1], &a) && u32_of(w[2], &b) && f64_of(w[3], &l) && f64_of(w[4], &t) && f64_of(w[5], &wide) && f64_of(w[6], &high));
+    return printf("%" PRIu32, mirror_crop(a, b, l, t, wide, high));
+}
+
+static int fit(char **w, int words)
+{
+    uint32_t s[4], centred = words == 7;
+    double x = 0, y = 0, l = -1, t = -1, wide = -1, high = -1;
+    for (int i = 0; i < 4; i++)
+        OR_BAD(u32_of(w[i + 1], &s[i]));
+    OR_BAD(centred ? f64_of(w[5], &x) && f64_of(w[6], &y) : strcmp(w[5], "none") == 0);
+    uint32_t no = mirror_fit(s[0], s[1], s[2], s[3], centred, x, y, &l, &t, &wide, &high);
+    return printf("%" PRIu32 " %016" PRIx64 " %016" PRIx64 " %016" PRIx64 " %016" PRIx64, no, bits(l), bits(t), bits(wide), bits(high));
+}
+
+static int build(char **w)
+{
+    uint32_t kind, adapts, axis, a, b, out, window = 77, line = 77;
+    double n[4];
+    OR_BAD(kind_of(w[1], &kind) && u32_of(w[2], &adapts) && adapts <= 1 && u32_of(w[3], &axis) && axis <= 1);
+    OR_BAD(u32_of(w[4], &a) && u32_of(w[5], &b) && u32_of(w[6], &out));
+    for (int i = 0; i < 4; i++)
+        OR_BAD(f64_of(w[7 + i], &n[i]));
+    struct list *slots = lend('d', w[11]), *starts = slots ? lend('u', w[12]) : NULL, *sizes = starts ? lend('u', w[13]) : NULL;
+    OR_BAD(sizes);
+    uint32_t no = mirror_weights(a, b, n[0], n[1], n[2], n[3], axis, out, kind, adapts, at(slots), slots->count, at(starts), starts->count,
+                                 at(sizes), sizes->count, &window, &line);
+    printf("%" PRIu32 " %" PRIu32 " %" PRIu32, no, line, window);
+    show('d', slots);
+    show('u', starts);
+    show('u', sizes);
+    return 1;
+}
+
+static int normalize(char **w)
+{
+    uint32_t lines, window, precision = 77, no;
+    int wide = w[0][4] == '3';
+    OR_BAD(u32_of(w[1], &lines) && u32_of(w[2], &window));
+    struct list *slots = read_list('d', w[3], 1), *starts = slots ? read_list('u', w[4], 1) : NULL, *sizes = starts ? read_list('u', w[5], 1) : NULL;
+    struct list *out = sizes ? lend(wide ? 'i' : 'h', w[6]) : NULL;
+    OR_BAD(out);
+    if (wide)
+        no = mirror_normalize32(lines, window, at(slots), slots->count, at(starts), starts->count, at(sizes), sizes->count, at(out), out->count, &precision);
+    else
+        no = mirror_normalize16(lines, window, at(slots), slots->count, at(starts), starts->count, at(sizes), sizes->count, at(out), out->count, &precision);
+    printf("%" PRIu32 " %" PRIu32, no, precision);
+    show(wide ? 'i' : 'h', out);
+    return 1;
+}
+
+static int pass(char **w, int floats)
+{
+    uint32_t n[6], no;
+    for (int i = 0; i < 6 - floats; i++)
+        OR_BAD(u32_of(w[i + 1], &n[i]));
+    w += 7 - floats;
+    struct list *ws = read_list(floats ? 'd' : 'i', w[0], 1), *starts = ws ? read_list('u', w[1], 1) : NULL, *sizes = starts ? read_list('u', w[2], 1) : NULL;
+    struct list *src = sizes ? read_list(floats ? 'f' : 'w', w[3], 1) : NULL, *out = src ? lend(floats ? 'f' : 'w', w[4]) : NULL;
+    OR_BAD(out);
+    if (floats)
+        no = mirror_vertical_f32(at(src), src->count, n[0], n[1], n[2], n[3], at(ws), ws->count, at(starts), starts->count, at(sizes), sizes->count,
+                                 n[4], at(out), out->count);
+    else
+        no = mirror_vertical_u16(at(src), src->count, n[0], n[1], n[2], n[3], at(ws), ws->count, at(starts), starts->count, at(sizes), sizes->count,
+                                 n[4], n[5], at(out), out->count);
+    printf("%" PRIu32, no);
+    show(floats ? 'f' : 'w', out);
+    return 1;
+}
+
+static int alpha(char **w, int words)
+{
+    int divide = w[0][0] == 'd', in_place = words == 2;
+    struct list *src = read_list('c', w[1], !in_place), *out = in_place ? src : src ? lend('c', w[2]) : NULL;
+    uint32_t no;
+    OR_BAD(out);
+    if (in_place)
+        no = (divide ? mirror_divide_u8x4_inplace : mirror_multiply_u8x4_inplace)(at(src), src->count);
+    else
+        no = (divide ? mirror_divide_u8x4 : mirror_multiply_u8x4)(at(src), src->count, at(out), out->count);
+    printf("%" PRIu32, no);
+    show('c', out);
+    return 1;
+}
+
+static int sheet(char **w)
+{
+    uint32_t kind, lines, window, precision, no;
+    uint64_t written = 77;
+    int wide = strcmp(w[4], "32") == 0;
+    OR_BAD(kind_of(w[1], &kind) && u32_of(w[2], &lines) && u32_of(w[3], &window) && (wide || strcmp(w[4], "16") == 0) && u32_of(w[5], &precision));
+    struct list *ws = read_list(wide ? 'i' : 'h', w[6], 1), *starts = ws ? read_list('u', w[7], 1) : NULL, *sizes = starts ? read_list('u', w[8], 1) : NULL;
+    struct list *text = sizes ? lend('c', w[9]) : NULL;
+    OR_BAD(text);
+    if (wide)
+        no = mirror_sheet32(kind, lines, window, precision, at(ws), ws->count, at(starts), starts->count, at(sizes), sizes->count, at(text), text->count, &written);
+    else
+        no = mirror_sheet16(kind, lines, window, precision, at(ws), ws->count, at(starts), starts->count, at(sizes), sizes->count, at(text), text->count, &written);
+    printf("%" PRIu32 " %" PRIu64, no, written);
+    show('x', text);
+    return 1;
+}
+
+static int one_of(const char *w, const char *names)
+{
+    size_t n = strlen(w);
+    for (const char *p = names; n && (p = strstr(p, w)); p += n)
+        if ((p == names || p[-1] == ' ') && (p[n] == ' ' || p[n] == 0))
+            return 1;
+    return 0;
+}
+
+/* Whether the line was a request. */
+static int answer(char **w, int words)
+{
+    if (words == 2 && one_of(w[0], "abs floor ceil round narrow widen"))
+        return helper(w);
+    if (words == 2 && strcmp(w[0], "clip8") == 0)
+        return clip8(w);
+    if (words == 3 && strcmp(w[0], "filter") == 0)
+        return filter(w);
+    if (words == 7 && strcmp(w[0], "crop") == 0)
+        return crop(w);
+    if ((words == 6 || words == 7) && strcmp(w[0], "fit") == 0)
+        return fit(w, words);
+    if (words == 14 && strcmp(w[0], "build") == 0)
+        return build(w);
+    if (words == 7 && one_of(w[0], "norm16 norm32"))
+        return normalize(w);
+    if (words == 12 && strcmp(w[0], "u16pass") == 0)
+        return pass(w, 0);
+    if (words == 11 && strcmp(w[0], "f32pass") == 0)
+        return pass(w, 1);
+    if ((words == 3 && one_of(w[0], "mul8 div8")) || (words == 2 && one_of(w[0], "mul8in div8in")))
+        return alpha(w, words);
+    if (words == 10 && strcmp(w[0], "sheet") == 0)
+        return sheet(w);
+    return 0;
+}
+
+int main(void)
+{
+    char *line = NULL;
+    size_t room = 0;
+    ssize_t length;
+    static char buffer[1 << 20];
+    setvbuf(stdout, buffer, _IOFBF, sizeof buffer);
+    while ((length = getline(&line, &room, stdin)) >= 0) {
+        char *words[WORDS + 1];
+        int n = 0;
+        if (length > 0 && line[length - 1] == '\n')
+            line[--length] = 0;
+        if (length > 0 && (length > LONGEST || strlen(line) != (size_t)length)) {
+            puts("bad");
+            continue;
+        }
+        words[n++] = line;
+        for (char *p = line; n <= WORDS && (p = strchr(p, ' ')); words[n++] = p)
+            *p++ = 0;
+        if (length > 0 && !answer(words, n))
+            printf("bad");
+        if (!untouched())
+            printf(" touched");
+        forget();
+        putchar('\n');
+    }
+    free(line);
+    return 0;
+}
