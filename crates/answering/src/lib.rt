@@ -21,11 +21,20 @@ fn by_group(line: &[u8], w: Words, n: usize, out: &mut [u8]) -> usize {
     if ask_numbers::knows(line, w) {
         return ask_numbers::answer(line, w, n, out);
     }
+    if ask_alpha::knows(line, w) {
+        return ask_alpha::answer(line, w, n, out);
+    }
     if ask_crop::knows(line, w) {
         return ask_crop::answer(line, w, n, out);
     }
+    if ask_normalizer::knows(line, w) {
+        return ask_normalizer::answer(line, w, n, out);
+    }
     if ask_weights::knows(line, w) {
         return ask_weights::answer(line, w, n, out);
+    }
+    if ask_passes::knows(line, w) {
+        return ask_passes::answer(line, w, n, out);
     }
     emit::bad(n, out)
 }
