@@ -1,8 +1,13 @@
+pub mod Frames
+pub mod FlatFrame
 pub mod Box
 pub mod BoxFilter
 pub mod BoxWindow
 pub mod BoxLines
 pub mod BoxPlan
-pub mod Frames
-pub mod FlatFrame
+pub mod BoxSet
+pub mod BoxPrecision
+pub mod BoxPremise
 pub mod ColumnCuts
+pub mod Restated
+pub mod Table

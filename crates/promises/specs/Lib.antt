@@ -1,3 +1,7 @@
 pub mod SumOfFrames
 pub mod FlatFrames
 pub mod ColumnCuts
+pub mod BoxKeepsFlat
+pub mod AlphaSteps
+pub mod ClipRule
+pub mod Table

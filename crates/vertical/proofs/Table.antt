@@ -1,14 +1,18 @@
--- Rows 10 to 12 of document 01's table, computed on the value of the u16 pass: one window over a frame of one column. Restated by the promises.
+-- Rows 10 to 12 of document 01's table, computed on the value of the u16 pass, and the f32 pass's ties and order: one window over a frame of one column.
+-- Rows restated by the promises.
 -- Assumes nothing.
 use mathlib.Core.Path.{_≡_, refl}
 use mathlib.Core.List.{List, [], _∷_}
 use Prim.Native.Nat.{ℕ}
 use lib.IntN.{ℤ, pos, negsuc}
+use lib.Ieee.{Float, nan, binary32, binary64, add, mul, round, ofBits, toBits, sum as sumOf}
 use lib.ListN.{length}
 use Rattle.integers.specs.Sums.{sum, shifted, clipped}
+use Rattle.numbers.specs.Whole.{narrow}
 use Rattle.windows.specs.Set.{setOf}
 use Rattle.vertical.specs.Frame.{frame}
 use Rattle.vertical.specs.U16.{valueAt}
+use Rattle.vertical.specs.F32.{valueAt32}
 
 -- precision 4, the weights and samples of one window
 abbrev pub pass4 : List ℤ → List ℕ → ℕ
@@ -27,3 +31,29 @@ pub rows-10-to-12 :
     × ((pass4 even (1 ∷ 0 ∷ []) ≡ 1) × (pass4 even (0 ∷ 1 ∷ []) ≡ 1) × (pass4 even (1 ∷ 1 ∷ []) ≡ 1))
 unfolding sum shifted clipped
 rows-10-to-12 = (refl, (refl, refl), (refl, refl, refl))
+
+-- ---- the f32 pass, as bits: ties of the narrowing to the even one (row 14, through a pass), and the order of the sum
+
+abbrev pub pass32 : List Float → List Float → ℕ
+pass32 weights src =
+    toBits binary32 (valueAt32 (setOf (length src) (length weights) weights (0 ∷ []) (length weights ∷ []) 0) (frame nan src 1) 0 0)
+
+-- the double with these bits
+abbrev double : ℕ → Float
+double n = ofBits binary64 n
+
+-- 1 + 2^-24 gives 1, and 1 + 3 x 2^-24 gives 1 + 2^-22
+pub pass32-ties :
+    (pass32 (double 0x3ff0_0000_1000_0000 ∷ []) (double 0x3ff0_0000_0000_0000 ∷ []) ≡ 0x3f80_0000)
+    × (pass32 (double 0x3ff0_0000_3000_0000 ∷ []) (double 0x3ff0_0000_0000_0000 ∷ []) ≡ 0x3f80_0002)
+unfolding narrow add mul ofBits toBits round sumOf
+pass32-ties = (refl, refl)
+
+-- 1 + 2^60 - 2^60 is 0 in line order, and would be 1 in the other
+pub pass32-order :
+    pass32
+    (double 0x3ff0_0000_0000_0000 ∷ double 0x43b0_0000_0000_0000 ∷ double 0xc3b0_0000_0000_0000 ∷ [])
+    (double 0x3ff0_0000_0000_0000 ∷ double 0x3ff0_0000_0000_0000 ∷ double 0x3ff0_0000_0000_0000 ∷ [])
+    ≡ 0
+unfolding narrow add mul ofBits toBits round sumOf
+pass32-order = refl

@@ -1,216 +1,26 @@
--- The fast narrowing is the narrowing. Assumes nothing.
+-- The fast narrowing is the narrowing, for every x up to 2^205 in size: `narrow-right`, by the fields of x. Cited by `narrow`. Assumes nothing.
 use mathlib.Core.Path.{_≡_, refl, sym, ap, _∙_, subst}
-use mathlib.Core.Logic.{_⊎_, inl, inr}
+use mathlib.Core.Logic.{inl, inr}
 use Prim.Native.Nat.{ℕ, zero, suc, _+_, _-_, _*_, _/_, _%_, _^_, _≤_, _<_, zero-le}
-use native.Mathlib.Nat.{le-trans, le-of-eq, lt-of-lt-of-le, lt-of-le-of-lt, zero-lt-suc, zero-add, zero-mul, add-zero, not-le-of-lt, lt-of-not-le, mul-one, mul-comm, mul-assoc, mul-left-comm, mul-right-comm, mul-le-mul-right, mul-le-mul-left, mul-lt-mul-of-pos-right, lt-of-mul-lt-mul-right, le-of-mul-le-mul-right, eq-of-mul-eq-mul-right, mul-pos, div-add-mod', mod-lt, le-add-right}
+use native.Mathlib.Nat.{le-trans, le-of-eq, lt-of-lt-of-le, lt-of-le-of-lt, zero-lt-suc, zero-add, add-zero, not-le-of-lt, lt-of-not-le, mul-one, mul-right-comm, mul-le-mul-right, mul-le-mul-left, mul-lt-mul-of-pos-right, le-of-mul-le-mul-right, mul-pos, div-add-mod', mod-lt, le-add-right}
 use native.Mathlib.Omega.{arith}
-use mathlib.Core.Bool.{Bool, true, false, not, _&&_, cond}
-use lib.IntN.{ℤ}
-use lib.Bits.{bitOr, or-block, or-zero-r}
+use mathlib.Core.Bool.{Bool, true, false, not, cond}
+use lib.Bits.{bitOr}
 use lib.Dec.{T, ltb, leb, eqb, ltb→lt, lt→ltb, nltb→le, leb→le, nleb→lt, lit≤, lit<}
 use lib.Pow.{pow-add, pow-pos, pow-mono, pow-lt, shl-lt, shr-lt}
-use lib.Ieee.{Float, nan, inf, fin, Format, binary32, binary64, prec, low, hid, top, up, down, size, units, round, add, sub, mul, lt, ofBits, ofFields, toBits, isNan, fits}
-use lib.Ieee.Fits.{round-fits, down-pos, fits-widens}
-use lib.Ieee.Exact.{HasValue, round-exact, units-val}
-use lib.Ieee.Nearest.{closest}
+use lib.Ieee.{Float, nan, inf, fin, binary64, down, round, mul, lt, ofBits, ofFields, toBits, isNan, fits}
+use lib.Ieee.Fits.{down-pos}
+use lib.Ieee.Exact.{HasValue, round-exact}
 use lib.Ieee.Bits.{ofBits-toBits, toBits-lt}
-use Rattle.floats.proofs.Digits.{round-digits, value-zero, value-mid}
-use Rattle.floats.proofs.Laws.{fits-unique, toBits-is, pow-le-cancel}
-use Rattle.floats.proofs.Pattern.{units-over, fields}
+use Rattle.floats.proofs.Digits.{value-zero, value-mid}
+use Rattle.floats.proofs.Laws.{pow-le-cancel}
+use Rattle.floats.proofs.Pattern.{fields}
 use Rattle.floats.proofs.Value.{mul-values, lt-values, same-test}
-use Rattle.numbers.proofs.NarrowLaws.{narrow-value}
 use Rattle.floats.specs.Within.{AtMost}
-use Rattle.numbers.proofs.Codes.{narrow-fits}
 use Rattle.numbers.specs.Whole.{narrow}
-use Rattle.vertical_f32.proofs.Magic.{grid, stays, leaves, Y-value, kept}
 use Rattle.vertical_f32.specs.Narrowing.{largerOf, roundedBy}
-
--- ---- the sign put on
-fits-sign : (f : Format) (s t : Bool) (m : ℕ) (e : ℤ) → T (fits f (fin s m e)) → T (fits f (fin t m e))
-unfolding fits
-fits-sign f s t zero e h = h
-fits-sign f s t (suc m) e h = h
-
-abbrev bit : Bool → ℕ
-bit s = cond s 1 0
-
-or-bit : (t s : Bool) → (T t → T s) → bitOr (bit t) (bit s) ≡ bit s
-or-bit true true h = refl
-or-bit true false h = absurd (h tt)
-or-bit false true h = refl
-or-bit false false h = refl
-
-top-bit : (s : Bool) (A B : ℕ) → cond s (2 ^ 63) 0 + A + B ≡ bit s * 2 ^ 63 + (A + B)
-top-bit true A B = omega arith
-top-bit false A B = omega arith
-
-or-code : (t s : Bool) (A B b : ℕ) → (T t → T s) → A + B < 2 ^ 63 → b / 2 ^ 63 ≡ bit s → bitOr (cond t (2 ^ 63) 0 + A + B) (b / 2 ^ 63 * 2 ^ 63) ≡ cond s (2 ^ 63) 0 + A + B
-or-code t s A B b h l e =
-    ap (λ (z : ℕ). bitOr z (b / 2 ^ 63 * 2 ^ 63)) (top-bit t A B)
-    ∙ ap (λ (z : ℕ). bitOr (bit t * 2 ^ 63 + (A + B)) z) (ap (λ (z : ℕ). z * 2 ^ 63) e ∙ sym (add-zero (bit s * 2 ^ 63)))
-    ∙ or-block 63 (bit t) (bit s) (A + B) 0 l (pow-pos 63)
-    ∙ ap (λ (z : ℕ). z * 2 ^ 63 + bitOr (A + B) 0) (or-bit t s h)
-    ∙ ap (λ (z : ℕ). bit s * 2 ^ 63 + z) (or-zero-r (A + B))
-    ∙ sym (top-bit s A B)
-
-low-part : (A B : ℕ) → 2 ^ 63 + A + B < 2 * 2 ^ 63 → A + B < 2 ^ 63
-low-part A B h = omega arith
-
-with-sign : (t s : Bool) (m : ℕ) (e : ℤ) (b : ℕ) → T (fits binary64 (fin t m e)) → (T t → T s) → b / 2 ^ 63 ≡ bit s → ofBits binary64 (bitOr (toBits binary64 (fin t m e)) (b / 2 ^ 63 * 2 ^ 63)) ≡ fin s m e
-with-sign t s m e b F h k =
-    let n = m * up e * 2 ^ low binary64 / down e in
-    let A = (size n - prec binary64) * hid binary64 in
-    let B = n / 2 ^ (size n - prec binary64) in
-    let l : A + B < 2 ^ 63 = low-part A B (subst (λ (z : ℕ). z < 2 * top binary64) (toBits-is binary64 true m e) (toBits-lt binary64 (fin true m e) (fits-sign binary64 t true m e F))) in
-    ap (ofBits binary64) (ap (λ (z : ℕ). bitOr z (b / 2 ^ 63 * 2 ^ 63)) (toBits-is binary64 t m e) ∙ or-code t s A B b h l k ∙ sym (toBits-is binary64 s m e))
-    ∙ ofBits-toBits binary64 (fin s m e) (fits-sign binary64 t s m e F)
-
-inf-sign : (s : Bool) (b : ℕ) → b / 2 ^ 63 ≡ bit s → ofBits binary64 (bitOr (toBits binary64 (inf s)) (b / 2 ^ 63 * 2 ^ 63)) ≡ inf s
-unfolding toBits ofBits
-inf-sign s b k = ap (λ (z : ℕ). ofBits binary64 (bitOr (toBits binary64 (inf s)) (z * 2 ^ 63))) k ∙ go s
-  where
-    go : (s : Bool) → ofBits binary64 (bitOr (toBits binary64 (inf s)) (bit s * 2 ^ 63)) ≡ inf s
-    go true = refl
-    go false = refl
-
--- ---- from one fraction to another of the same size
-rescale : (x : Float) (s : Bool) (w l num den : ℕ) → 0 < l → num * l ≡ w * den → HasValue x s w l → HasValue x s num den
-rescale nan s w l num den p h v = v
-rescale (inf t) s w l num den p h v = v
-rescale (fin t m e) s w l num den p h v =
-    (v .0, eq-of-mul-eq-mul-right l p (m * up e * den) (num * down e) (mul-right-comm (m * up e) den l ∙ ap (λ (x : ℕ). x * den) (v .1) ∙ mul-right-comm w (down e) den ∙ ap (λ (x : ℕ). x * down e) (sym h) ∙ mul-right-comm num l (down e)))
-
--- ---- a finite result
-settle : (z v : Float) (t s : Bool) (W L b : ℕ) → 0 < L → HasValue z t W L → T (fits binary64 z) → (T t → T s) → b / 2 ^ 63 ≡ bit s → HasValue v s W L → T (fits binary64 v)
-    → T (not (isNan z)) × (ofBits binary64 (bitOr (toBits binary64 z) (b / 2 ^ 63 * 2 ^ 63)) ≡ v)
-unfolding isNan
-settle nan v t s W L b P p F h k q G = absurd p
-settle (inf r) v t s W L b P p F h k q G = absurd p
-settle (fin r m e) v t s W L b P p F h k q G =
-    (tt, with-sign r s m e b F (λ x. h (subst T (p .0) x)) k ∙ fits-unique binary64 (fin s m e) v s W L P (fits-sign binary64 r s m e F) G (refl, p .1) q)
-
--- ---- the constants
-times : HasValue (ofBits binary64 0x77f0000000000000) false (2 ^ 896) 1
-unfolding ofBits
-times = (refl, refl)
-
-over : HasValue (ofBits binary64 0x07f0000000000000) false 1 (2 ^ 896)
-unfolding ofBits
-over = (refl, refl)
-
-factor : HasValue (ofBits binary64 0x41c8000000000000) false 805306368 1
-unfolding ofBits
-factor = (refl, refl)
-
-tiny : HasValue (ofBits binary64 0x39e8000000000000) false (3 * 2 ^ 976) (2 ^ 1074)
-unfolding ofBits
-tiny = (refl, refl)
-
-tiny-grid : HasValue (ofBits binary64 0x39e8000000000000) false (3377699720527872 * 2 * 2 ^ (925 + 0)) (2 ^ 1074)
-unfolding ofBits
-tiny-grid = (refl, refl)
-
--- ---- x of size N / 2 ^ 1074, and c as the code finds it, for a result that drops 925 + h digits
-bounds : (U N : ℕ) → N < 16777216 * U → (N < 3377699720527872 * 2 * U) × (3377699720527872 * 2 * U + N < 9007199254740992 * U) × (4503599627370496 * U ≤ 3377699720527872 * 2 * U - N)
-bounds U N h = omega arith
-
-and-l : (a b : Bool) → T (a && b) → T a
-and-l true b t = tt
-and-l false b t = t
-
-and-right : (a b : Bool) → T b → (a && b) ≡ a
-and-right true true t = refl
-and-right false true t = refl
-and-right a false t = absurd t
-
-shuffle : (q a h b : ℕ) → q * (a * h) * b ≡ q * h * (a * b)
-shuffle q a h b = simp (mul-assoc, mul-comm, mul-left-comm) refl
-
-positive : (q a b c : ℕ) → 0 < c → c ≤ q * a * b → 0 < q
-positive zero a b c C h = absurd (clash c (0 * a * b) C h (ap (λ (z : ℕ). z * b) (zero-mul a) ∙ zero-mul b))
-  where
-    clash : (c z : ℕ) → 0 < c → c ≤ z → z ≡ 0 → ⊥
-    clash c z C h e = omega arith
-positive (suc q) a b c C h = zero-lt-suc q
-
-module _ (s : Bool) (x c : Float) (N h b : ℕ) (X : HasValue x s N (2 ^ 1074)) (C : HasValue c false (3377699720527872 * 2 * 2 ^ (925 + h)) (2 ^ 1074)) (small : N < 2 ^ (24 + (925 + h))) (lead : (h ≡ 0) ⊎ (2 ^ (23 + (925 + h)) ≤ N)) (top-h : h ≤ 331) (sb : b / 2 ^ 63 ≡ bit s) where
-  abbrev K : ℕ
-  K = 925 + h
-
-  abbrev Q : ℕ
-  Q = closest N (2 ^ (925 + h))
-
-  limits : (N < 3377699720527872 * 2 * 2 ^ (925 + h)) × (3377699720527872 * 2 * 2 ^ (925 + h) + N < 2 ^ (53 + (925 + h))) × (2 ^ (52 + (925 + h)) ≤ 3377699720527872 * 2 * 2 ^ (925 + h) - N)
-  limits =
-      let l = bounds (2 ^ (925 + h)) N (subst (λ (z : ℕ). N < z) (pow-add 2 24 (925 + h)) small) in
-      (l .0, subst (λ (z : ℕ). 3377699720527872 * 2 * 2 ^ (925 + h) + N < z) (sym (pow-add 2 53 (925 + h))) (l .1), subst (λ (z : ℕ). z ≤ 3377699720527872 * 2 * 2 ^ (925 + h) - N) (sym (pow-add 2 52 (925 + h))) (l .2))
-
-  kept-Q : Q ≤ 2 ^ 24
-  kept-Q = kept 24 N (925 + h) small
-
-  far : 53 + (925 + h) < 2098
-  far = omega arith
-
-  fine : Q * 2 ^ (925 + h) < 2 ^ 2098
-  fine = lt-of-le-of-lt (le-trans (mul-le-mul-right (2 ^ (925 + h)) kept-Q) (le-of-eq (sym (pow-add 2 24 (925 + h))))) (pow-lt (go h top-h))
-    where
-      go : (h : ℕ) → h ≤ 331 → 24 + (925 + h) < 2098
-      go h l = omega arith
-
-  digits : Q < 2 ^ 53
-  digits = lt-of-le-of-lt kept-Q (lit< tt)
-
-  abbrev sign : Bool
-  sign = s && ltb 0 Q
-
-  abbrev Y : Float
-  Y = round binary64 sign (Q * 2 ^ (925 + h)) (2 ^ 1074)
-
-  rounded : sub binary64 (add binary64 x c) c ≡ Y
-  rounded = grid binary64 x c N (925 + h) 3377699720527872 C (limits .0) (limits .1) (limits .2) far s X
-
-  narrow-is : narrow x ≡ units binary32 s Q h
-  narrow-is =
-      narrow-value x s N (2 ^ 1074) (pow-pos 1074) X ∙ ap (λ (z : ℕ). round binary32 s z (2 ^ 1074)) (sym (mul-one N))
-      ∙ round-digits binary32 N 0 1074 (925 + h) h small lead (place h) s
-    where
-      place : (h : ℕ) → 1074 + h ≡ 925 + h + (0 + 149)
-      place h = omega arith
-
-  split : Q * 2 ^ (925 + h) * 2 ^ 896 ≡ Q * 2 ^ h * 2 ^ 1821
-  split = ap (λ (z : ℕ). Q * z * 2 ^ 896) (pow-add 2 925 h) ∙ shuffle Q (2 ^ 925) (2 ^ h) (2 ^ 896) ∙ ap (λ (z : ℕ). Q * 2 ^ h * z) (sym (pow-add 2 925 896))
-
-  cut : Q * 2 ^ (925 + h) * 2 ^ 149 ≡ Q * 2 ^ h * 2 ^ 1074
-  cut = ap (λ (z : ℕ). Q * z * 2 ^ 149) (pow-add 2 925 h) ∙ shuffle Q (2 ^ 925) (2 ^ h) (2 ^ 149) ∙ ap (λ (z : ℕ). Q * 2 ^ h * z) (sym (pow-add 2 925 149))
-
-  pub core : T (not (isNan (roundedBy x c))) × (ofBits binary64 (bitOr (toBits binary64 (roundedBy x c)) (b / 2 ^ 63 * 2 ^ 63)) ≡ narrow x)
-  core = go (ltb (Q * 2 ^ (925 + h) * 2 ^ 896) (2 ^ 2098)) (ltb→lt (Q * 2 ^ (925 + h) * 2 ^ 896) (2 ^ 2098)) (nltb→le (Q * 2 ^ (925 + h) * 2 ^ 896) (2 ^ 2098))
-    where
-      inside : Q * 2 ^ (925 + h) * 2 ^ 896 < 2 ^ 2098 → Q * 2 ^ h < 2 ^ 277
-      inside l = lt-of-mul-lt-mul-right (2 ^ 1821) (lt-of-lt-of-le (subst (λ (z : ℕ). z < 2 ^ 2098) split l) (le-of-eq (pow-add 2 277 1821)))
-
-      outside : 2 ^ 2098 ≤ Q * 2 ^ (925 + h) * 2 ^ 896 → 2 ^ 277 ≤ Q * 2 ^ h
-      outside l = le-of-mul-le-mul-right (le-trans (le-of-eq (sym (pow-add 2 277 1821))) (subst (λ (z : ℕ). 2 ^ 2098 ≤ z) split l)) (pow-pos 1821)
-
-      past : T (not (isNan (inf s))) × (ofBits binary64 (bitOr (toBits binary64 (inf s)) (b / 2 ^ 63 * 2 ^ 63)) ≡ inf s)
-      past = (unfold isNan in tt, inf-sign s b sb)
-
-      go : (d : Bool) → (T d → Q * 2 ^ (925 + h) * 2 ^ 896 < 2 ^ 2098) → (T (not d) → 2 ^ 2098 ≤ Q * 2 ^ (925 + h) * 2 ^ 896)
-          → T (not (isNan (roundedBy x c))) × (ofBits binary64 (bitOr (toBits binary64 (roundedBy x c)) (b / 2 ^ 63 * 2 ^ 63)) ≡ narrow x)
-      go true p q =
-          let e : roundedBy x c ≡ Y = ap (λ (z : Float). mul binary64 (mul binary64 z (ofBits binary64 0x77f0000000000000)) (ofBits binary64 0x07f0000000000000)) rounded ∙ stays binary64 sign (ofBits binary64 0x77f0000000000000) (ofBits binary64 0x07f0000000000000) Q (925 + h) 896 times over digits fine (p tt) in
-          let v = units-val binary32 s Q h (inside (p tt)) in
-          settle (roundedBy x c) (narrow x) sign s (Q * 2 ^ (925 + h)) (2 ^ 1074) b (pow-pos 1074)
-          (subst (λ (z : Float). HasValue z sign (Q * 2 ^ (925 + h)) (2 ^ 1074)) (sym e) (Y-value binary64 sign (ofBits binary64 0x77f0000000000000) (ofBits binary64 0x07f0000000000000) Q (925 + h) 896 times over digits fine))
-          (subst (λ (z : Float). T (fits binary64 z)) (sym e) (round-fits binary64 sign (Q * 2 ^ (925 + h)) (2 ^ 1074)))
-          (and-l s (ltb 0 Q)) sb
-          (subst (λ (z : Float). HasValue z s (Q * 2 ^ (925 + h)) (2 ^ 1074)) (sym narrow-is) (rescale (units binary32 s Q h) s (Q * 2 ^ h) (2 ^ 149) (Q * 2 ^ (925 + h)) (2 ^ 1074) (pow-pos 149) cut v))
-          (fits-widens (narrow x) (narrow-fits x))
-      go false p q =
-          let w : sign ≡ s = and-right s (ltb 0 Q) (lt→ltb 0 Q (positive Q (2 ^ (925 + h)) (2 ^ 896) (2 ^ 2098) (pow-pos 2098) (q tt))) in
-          let e : roundedBy x c ≡ inf s = ap (λ (z : Float). mul binary64 (mul binary64 z (ofBits binary64 0x77f0000000000000)) (ofBits binary64 0x07f0000000000000)) rounded ∙ leaves binary64 sign (ofBits binary64 0x77f0000000000000) (ofBits binary64 0x07f0000000000000) Q (925 + h) 896 times over digits fine (q tt) ∙ ap inf w in
-          let n : narrow x ≡ inf s = narrow-is ∙ units-over binary32 s Q h (outside (q tt)) in
-          (subst (λ (z : Float). T (not (isNan z))) (sym e) (past .0), ap (λ (z : Float). ofBits binary64 (bitOr (toBits binary64 z) (b / 2 ^ 63 * 2 ^ 63))) e ∙ past .1 ∙ sym n)
+use Rattle.vertical_f32.proofs.SignBack.{bit, rescale}
+use Rattle.vertical_f32.proofs.Narrowed.{factor, tiny, tiny-grid, core}
 
 -- ---- the exponent's field X and the digits t of x
 abbrev pub scaled : ℕ → Float

@@ -1,4 +1,8 @@
-pub mod Magic
+pub mod FromAbove
+pub mod AddAway
+pub mod Overflow
+pub mod SignBack
+pub mod Narrowed
 pub mod Fast
 pub mod Decided
 pub mod SumLaws

@@ -1,0 +1,228 @@
+-- The proofs of `BoxPremise` and `BoxFlat`. The builder's half says that a window is n slots of 1 / n (BoxSet); no weight is above 1, so the precision is 30 to 45
+-- (BoxPrecision); no weight in use left its type, so each becomes the same integer K, and `box` gives n K near enough to 2^P. Assumes nothing.
+use mathlib.Core.Path.{_≡_, refl, sym, ap, _∙_, subst}
+use mathlib.Core.Bool.{Bool, true, false, cond, not, _&&_, _||_}
+use mathlib.Core.List.{List}
+use Prim.Native.Nat.{ℕ, zero, suc, _+_, _-_, _*_, _/_, _%_, _^_, _≤_, _<_}
+use native.Mathlib.Nat.{le-refl, le-trans, le-of-eq, le-of-lt, lt-of-lt-of-le, mul-zero, mul-suc, mul-one, one-mul, zero-lt-suc}
+use native.Mathlib.Omega.{arith}
+use lib.Arith.{digits-lt, digits-div, digits-mod}
+use lib.Dec.{T, ltb, lit≤}
+use lib.Pow.{pow-mono}
+use lib.IntN.{ℤ, pos, _+ℤ_}
+use lib.Ieee.{Float, nan, inf, fin, binary64, ofInt, neg, lt, toSigned}
+use lib.Ieee.Back.{positive-back}
+use lib.Ieee.Positive.{num, den, den-pos}
+use lib.ListN.{length, getD, take}
+use lib.Seq.{getD-take}
+use borrow.Author.Tests.{lt-ltb, ltb-true}
+use Rattle.lists.specs.Tab.{any, front, tab}
+use Rattle.lists.proofs.TabLaws.{front-below}
+use Rattle.lists.proofs.BoolLaws.{never, ladder, or-right}
+use Rattle.lists.proofs.AnyLaws.{any-none}
+use Rattle.integers.specs.Nearest.{nearest}
+use Rattle.integers.specs.Sums.{sum, distance}
+use Rattle.integers.proofs.Parts.{distance-pos}
+use Rattle.floats.specs.Within.{Within}
+use Rattle.floats.specs.Doubles.{double}
+use Rattle.floats.proofs.Value.{lt-values}
+use Rattle.floats.proofs.Within.{round-within, within-value}
+use Rattle.floats.proofs.Integers.{int, int-value, within-mul, within-div-int, passes-float}
+use Rattle.numbers.specs.Whole.{whole, roundAway}
+use Rattle.numbers.proofs.Sizes.{half-le}
+use Rattle.refusal.specs.declared.Refusal.{Refusal}
+use Rattle.windows.specs.Fit.{badSides, badSet}
+use Rattle.windows.specs.Set.{Set, windows}
+use Rattle.vertical.specs.U16.{written16}
+use Rattle.normalizer.specs.declared.Normalized.{Normalized}
+use Rattle.normalizer.specs.declared.Normalized.the-variants.{Done as Normal, Refused}
+use Rattle.normalizer.specs.Precision.{power, scaled, precision, integer}
+use Rattle.normalizer.specs.Answer.{inUse, holds, leaves, notFinite, badPrecision, badWeights, tooFewSlots, normalizedOf, slotAt, writtenBy}
+use Rattle.filters.specs.declared.FilterType.the-variants.{Box}
+use Rattle.coefficients.specs.declared.Request.{Request}
+use Rattle.coefficients.specs.declared.Built.the-variants.{Done as Built}
+use Rattle.coefficients.specs.Request.{builtOf}
+use Rattle.coefficients.specs.Lines.{size}
+use Rattle.promises.specs.FlatFrames.{NearOne}
+use Rattle.promises.specs.BoxKeepsFlat.{builtSet, stored, BoxPremise, BoxFlat}
+use Rattle.promises.proofs.Box.{weight, box, scaled as product}
+use Rattle.promises.proofs.BoxSet as set
+use Rattle.promises.proofs.BoxPrecision.{rounded-is, largest-within, precise}
+use Rattle.promises.proofs.FlatFrame.{flat-frame}
+
+-- ---- what a normaliser that was not refused found
+abbrev kept : Normalized → ℕ
+kept (Normal p) = 0
+kept (Refused r) = 1
+
+unlike : {r : Refusal} {p : ℕ} → Refused r ≡ Normal p → ⊥
+unlike h = let z = ap kept h in omega arith
+
+same-precision : (a b : ℕ) → Normal a ≡ Normal b → a ≡ b
+same-precision a b h = cc
+
+pub record Accepted (bits limit : ℕ) (s : Set Float) (P : ℕ) : Type 0 where
+  pub found : precision bits limit (s .weights) ≡ P
+  pub inside : (x : ℕ) → x < length (s .weights) → leaves limit P (s .window) (s .weights) (s .sizes) x ≡ false
+
+pub accepted : (bits limit : ℕ) (s : Set Float) (room P : ℕ) → normalizedOf bits limit s room ≡ Normal P → Accepted bits limit s P
+unfolding normalizedOf
+accepted bits limit s room P h =
+    let p = precision bits limit (s .weights) in
+    let s1 = ladder (badSides (s .lines) (windows s)) unlike h in
+    let s2 = ladder (tooFewSlots bits limit s room) unlike (s1 .1) in
+    let s3 = ladder (badSet (s .lines) (s .window) (length (s .weights)) (s .starts) (s .sizes)) unlike (s2 .1) in
+    let s4 = ladder (badWeights bits limit s room) unlike (s3 .1) in
+    let e : p ≡ P = same-precision p P (s4 .1) in
+    let bad = or-right (any (length (s .weights)) (notFinite (s .weights))) (badPrecision limit p (s .window) (s .weights) (s .sizes)) (s4 .0) in
+    let none = or-right (ltb p 4) (any (length (s .weights)) (leaves limit p (s .window) (s .weights) (s .sizes))) bad in
+    record {
+      found = e;
+      inside = λ x l. subst (λ (n : ℕ). leaves limit n (s .window) (s .weights) (s .sizes) x ≡ false) e (any-none (leaves limit p (s .window) (s .weights) (s .sizes)) (length (s .weights)) none x l);
+    }
+
+-- a weight in use that does not leave its type is below 2^limit
+under : (a b c : Bool) → a ≡ true → a && not (b && c) ≡ false → c ≡ true
+under true true true h e = refl
+under true true false h e = never e
+under true false c h e = never e
+under false b c h e = never (sym h)
+
+-- ---- the integer that stands for 1 / n
+sum-equal : (K n : ℕ) → sum (λ k. pos K) n ≡ pos (K * n)
+unfolding sum
+sum-equal K zero = ap pos (sym (mul-zero K))
+sum-equal K (suc n) = rw (sum-equal K n, mul-suc)
+
+sum-ext : (f g : ℕ → ℤ) (n : ℕ) → ((k : ℕ) → k < n → f k ≡ g k) → sum f n ≡ sum g n
+unfolding sum
+sum-ext f g zero h = refl
+sum-ext f g (suc n) h = rw (sum-ext f g n (λ k l. h k (omega arith)), h n (omega arith))
+
+int-within : (m : ℕ) → m ≤ 2 ^ 53 → Within (int m) m
+int-within m h = round-within binary64 m 1 m (zero-lt-suc 0) h (le-of-eq (sym (mul-one m)))
+
+-- a size that is not negative, rounded and cast
+away-cast : (x : Float) (h n : ℕ) → h ≤ 53 → Within x n → nearest (num x) (den x) < 2 ^ h → toSigned h (roundAway binary64 x) ≡ pos (nearest (num x) (den x))
+unfolding ofInt
+away-cast x h n l w k = ap (toSigned h) (rounded-is x n w) ∙ cast (nearest (num x) (den x)) k
+  where
+    cast : (N : ℕ) → N < 2 ^ h → toSigned h (int N) ≡ pos N
+    cast N k = positive-back binary64 h N (passes-float N (le-trans (le-of-lt k) (pow-mono l))) k .1
+
+module _ (n P : ℕ) (some : 0 < n) (many : n ≤ 8192) (high : P ≤ 45) where
+  abbrev each : ℕ
+  each = nearest (num (product n P)) (den (product n P))
+
+  within : Within (product n P) (1 * 2 ^ P)
+  within =
+      let e : 2 ^ P ≤ 2 ^ 45 = pow-mono high in
+      within-mul (weight n) (int (2 ^ P)) 1 (2 ^ P)
+      (within-div-int (int 1) 1 n (int-within 1 (lit≤ tt)) some (le-trans many (lit≤ tt)) (lit≤ tt))
+      (int-within (2 ^ P) (le-trans e (lit≤ tt))) (omega arith)
+
+  scaled-is : scaled P (weight n) ≡ int each
+  unfolding scaled ofInt
+  scaled-is = rounded-is (product n P) (1 * 2 ^ P) within
+
+  below-limit : lt (scaled P (weight n)) (power 31) ≡ true → each < 2 ^ 31
+  unfolding ofInt
+  below-limit h =
+      let few : each ≤ 1 * 2 ^ P = half-le (num (product n P)) (den (product n P)) (den-pos (product n P)) (1 * 2 ^ P) (within-value (product n P) (1 * 2 ^ P) within .1) in
+      let e : 2 ^ P ≤ 2 ^ 45 = pow-mono high in
+      let small : each ≤ 2 ^ 53 = le-trans few (le-trans (le-of-eq (one-mul (2 ^ P))) (le-trans e (lit≤ tt))) in
+      let l : each * 1 < 2 ^ 31 * 1 =
+      ltb-true (each * 1) (2 ^ 31 * 1)
+      (sym (lt-values (int each) (int (2 ^ 31)) false false each 1 (2 ^ 31) 1 (zero-lt-suc 0) (zero-lt-suc 0) (int-value each small) (int-value (2 ^ 31) (lit≤ tt)))
+      ∙ ap (λ (z : Float). lt z (int (2 ^ 31))) (sym scaled-is) ∙ h) in
+      omega arith
+
+  integer-is : each < 2 ^ 31 → integer 31 P (weight n) ≡ pos each
+  unfolding integer scaled ofInt
+  integer-is l = away-cast (product n P) 31 (1 * 2 ^ P) (lit≤ tt) within l
+
+-- ---- a Box set that the builder and the 32-bit normaliser accept
+module _ (q : Request) (lines : ℕ) (ws : List Float) (ss zs : List ℕ) (w : ℕ) (out : List ℤ) (P : ℕ)
+    (box-asked : q .filter ≡ Box) (built : builtOf q (length ws) (length ss) (length zs) ≡ Built w)
+    (normal : normalizedOf 46 31 (builtSet q lines ws ss zs w) (length out) ≡ Normal P) where
+  abbrev s : Set Float
+  s = builtSet q lines ws ss zs w
+
+  got : Accepted 46 31 s P
+  got = accepted 46 31 s (length out) P normal
+
+  -- the precision
+  exact : (30 ≤ P) × (P ≤ 45)
+  exact =
+      let top = largest-within (s .weights) 1 (set.none-above q ws ss zs w box-asked built) in
+      subst (λ (p : ℕ). (30 ≤ p) × (p ≤ 45)) (got .found) (precise (s .weights) top)
+
+  module _ (i : ℕ) (h : i < q .output) where
+    abbrev n : ℕ
+    n = size (set.plan q ws ss zs w box-asked built) i
+
+    some : 0 < n
+    some = set.some-lines q ws ss zs w box-asked built i h .0
+
+    many : n ≤ 8192
+    many = set.some-lines q ws ss zs w box-asked built i h .1
+
+    size-is : getD (s .sizes) i 0 ≡ n
+    size-is = set.size-at q ws ss zs w box-asked built i h
+
+    -- a line of the window: its slot, and that it is in use
+    in-row : (k : ℕ) → k < n → k < w
+    in-row k l = lt-of-lt-of-le l (set.in-window q ws ss zs w box-asked built i h)
+
+    used : (k : ℕ) → k < n → inUse w (s .sizes) (i * w + k) ≡ true
+    used k l =
+        let r = in-row k l in
+        rw (digits-mod i r, digits-div i r, size-is) (lt-ltb k n l)
+
+    share : (k : ℕ) → k < n → getD (s .weights) (i * w + k) nan ≡ weight n
+    share k l = set.share-at q ws ss zs w box-asked built i h k l
+
+    long : windows s ≡ q .output
+    long = set.long-starts q ws ss zs w box-asked built
+
+    place : (k : ℕ) → k < n → i * w + k < q .output * w
+    place k l = digits-lt h (in-row k l)
+
+    -- the weight fits its type
+    fits : each n P some many (exact .1) < 2 ^ 31
+    fits =
+        let x = i * w + 0 in
+        let there : x < length (s .weights) = lt-of-lt-of-le (place 0 some) (le-of-eq (sym (set.long-weights q ws ss zs w box-asked built))) in
+        let kept : inUse w (s .sizes) x && not (holds 31 (scaled P (weight n))) ≡ false =
+        subst (λ (v : Float). inUse w (s .sizes) x && not (holds 31 (scaled P v)) ≡ false) (share 0 some) (got .inside x there) in
+        below-limit n P some many (exact .1)
+        (under (inUse w (s .sizes) x) (not (lt (scaled P (weight n)) (neg (power 31)))) (lt (scaled P (weight n)) (power 31)) (used 0 some) kept)
+
+    -- every slot in use of the stored set holds that integer
+    stored-at : (k : ℕ) → k < n → getD (stored q lines ws ss zs w out P .weights) (i * w + k) (pos 0) ≡ pos (each n P some many (exact .1))
+    unfolding writtenBy
+    stored-at k l =
+        let x = i * w + k in
+        let there : x < windows s * w = lt-of-lt-of-le (place k l) (le-of-eq (ap (λ (m : ℕ). m * w) (sym long))) in
+        getD-take (windows s * w) (front (windows s * w) (slotAt 31 P s) out) x (pos 0) there
+        ∙ front-below (windows s * w) (slotAt 31 P s) out x (pos 0) there
+        ∙ ap (λ (t : Bool). cond t (integer 31 P (getD (s .weights) x nan)) (pos 0)) (used k l)
+        ∙ ap (integer 31 P) (share k l)
+        ∙ integer-is n P some many (exact .1) fits
+
+    near : NearOne (stored q lines ws ss zs w out P) i
+    near =
+        let K = each n P some many (exact .1) in
+        let all : sum (λ k. getD (stored q lines ws ss zs w out P .weights) (i * w + k) (pos 0)) n ≡ pos (K * n) =
+        sum-ext (λ k. getD (stored q lines ws ss zs w out P .weights) (i * w + k) (pos 0)) (λ k. pos K) n stored-at ∙ sum-equal K n in
+        rw (size-is, all, distance-pos (K * n) (2 ^ P)) (box n P some many (exact .0) (exact .1))
+
+pub box-premise : BoxPremise
+box-premise q lines ws ss zs w out P ok i h = near q lines ws ss zs w out P (ok .0) (ok .1) (ok .2) i h
+
+pub box-flat : BoxFlat
+box-flat q lines ws ss zs w out P ok src row first count old v done top flat =
+    let s = stored q lines ws ss zs w out P in
+    let long : windows s ≡ q .output = set.long-starts q ws ss zs w (ok .0) (ok .1) in
+    subst (λ (m : ℕ). written16 s src row first count old ≡ tab 0 (m * count) (λ k. v)) long
+    (flat-frame s src row first count old v done top flat (λ i h. box-premise q lines ws ss zs w out P ok i (lt-of-lt-of-le h (le-of-eq long))))

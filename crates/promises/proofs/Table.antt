@@ -1,0 +1,25 @@
+-- The table of fourteen, by computation: here rows 1 to 6 and 10 to 12, in `normalizer` rows 7 to 9, in `numbers` rows 13 and 14. Assumes nothing.
+use mathlib.Core.Path.{refl}
+use Rattle.integers.specs.Sums.{sum, shifted, clipped}
+use Rattle.numbers.proofs.Table.{row-13, row-14}
+use Rattle.normalizer.proofs.Table.{row-7, row-8, row-9}
+use Rattle.promises.specs.Table.{TableOfFourteen}
+
+pub table-of-fourteen : TableOfFourteen
+unfolding sum shifted clipped
+table-of-fourteen = (
+  refl,
+  refl,
+  refl,
+  refl,
+  refl,
+  (refl, refl),
+  row-7,
+  row-8,
+  row-9,
+  refl,
+  (refl, refl),
+  (refl, refl, refl),
+  row-13,
+  row-14,
+)

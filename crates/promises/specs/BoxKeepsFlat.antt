@@ -1,0 +1,52 @@
+-- "Box keeps flat frames."
+-- Every Box request that the builder and the 32-bit normaliser accept, adapting or not, meets the premise of `FlatFrame` at every window; so a flat frame comes
+-- out of the u16 pass unchanged. Nothing is asked of the request but that it was accepted. Statements only. Assumes nothing.
+use mathlib.Core.Path.{_≡_}
+use mathlib.Core.List.{List}
+use Prim.Native.Nat.{ℕ, _*_, _≤_, _<_}
+use lib.IntN.{ℤ}
+use lib.Ieee.{Float}
+use lib.ListN.{length, take}
+use Rattle.lists.specs.Tab.{tab}
+use Rattle.filters.specs.declared.FilterType.the-variants.{Box}
+use Rattle.windows.specs.Set.{Set, setOf, windows}
+use Rattle.coefficients.specs.declared.Request.{Request}
+use Rattle.coefficients.specs.declared.Built.the-variants.{Done as Built}
+use Rattle.coefficients.specs.Request.{builtOf, weightsOf, startsOf, sizesOf}
+use Rattle.normalizer.specs.declared.Normalized.the-variants.{Done as Normal}
+use Rattle.normalizer.specs.Answer.{normalizedOf, writtenBy}
+use Rattle.vertical.specs.declared.Passed.the-variants.{Done}
+use Rattle.vertical.specs.U16.{passed16, written16}
+use Rattle.promises.specs.FlatFrames.{NearOne, Flat}
+
+-- the set that the builder leaves in three lent lists, its window size being w: the asked slots, starts and sizes, which are the lists' beginnings
+abbrev pub builtSet : Request → ℕ → List Float → List ℕ → List ℕ → ℕ → Set Float
+builtSet q lines ws ss zs w =
+    setOf lines w (take (q .output * w) (weightsOf q (length ws) (length ss) (length zs) ws))
+    (take (q .output) (startsOf q (length ws) (length ss) (length zs) ss))
+    (take (q .output) (sizesOf q (length ws) (length ss) (length zs) zs)) 0
+
+-- the set that the 32-bit normaliser makes of a set, at the precision P, in a lent list
+abbrev pub storedSet : Set Float → ℕ → List ℤ → Set ℤ
+storedSet s P out = setOf (s .lines) (s .window) (take (windows s * s .window) (writtenBy 31 s (Normal P) out)) (s .starts) (s .sizes) P
+
+-- the builder accepts q with the window size w, and the normaliser accepts what it built with the precision P
+module _ (q : Request) (lines : ℕ) (ws : List Float) (ss zs : List ℕ) (w : ℕ) (out : List ℤ) (P : ℕ) where
+  abbrev pub Accepted : Type 0
+  Accepted =
+      (q .filter ≡ Box) × (builtOf q (length ws) (length ss) (length zs) ≡ Built w) × (normalizedOf 46 31 (builtSet q lines ws ss zs w) (length out) ≡ Normal P)
+
+  abbrev pub stored : Set ℤ
+  stored = storedSet (builtSet q lines ws ss zs w) P out
+
+abbrev pub BoxPremise : Type 0
+BoxPremise =
+    (q : Request) (lines : ℕ) (ws : List Float) (ss zs : List ℕ) (w : ℕ) (out : List ℤ) (P : ℕ) → Accepted q lines ws ss zs w out P
+    → (i : ℕ) → i < q .output → NearOne (stored q lines ws ss zs w out P) i
+
+abbrev pub BoxFlat : Type 0
+BoxFlat =
+    (q : Request) (lines : ℕ) (ws : List Float) (ss zs : List ℕ) (w : ℕ) (out : List ℤ) (P : ℕ) → Accepted q lines ws ss zs w out P
+    → (src : List ℕ) (row first count : ℕ) (old : List ℕ) (v : ℕ)
+    → passed16 (stored q lines ws ss zs w out P) src row first count (length old) ≡ Done → v ≤ 65535 → Flat v src
+    → written16 (stored q lines ws ss zs w out P) src row first count old ≡ tab 0 (q .output * count) (λ k. v)

@@ -1,0 +1,5 @@
+pub mod JudgeLaws
+pub mod SheetLaws
+pub mod WriterLaws
+pub mod Sure
+pub mod Example

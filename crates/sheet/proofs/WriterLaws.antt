@@ -1,0 +1,44 @@
+-- The four ways of a writer, over kind, store, set and the lent list: each gives the answer and the list that the contract names. Cited by both
+-- writers. Assumes nothing.
+use mathlib.Core.Path.{_≡_, refl, ap, _∙_}
+use mathlib.Core.Bool.{true, false}
+use mathlib.Core.List.{List}
+use Prim.Native.Nat.{ℕ, _≤_, _<_}
+use lib.IntN.{ℤ}
+use lib.ListN.{length}
+use borrow.Author.Tests.{lt-ltb, le-ltb}
+use Rattle.lists.specs.Text.{laid}
+use Rattle.lists.proofs.TextLaws.{laid-over}
+use Rattle.refusal.specs.declared.Refusal.the-variants.{BadSide, DoesNotFit, NoRoom}
+use Rattle.filters.specs.declared.FilterType.{FilterType}
+use Rattle.windows.specs.Fit.{badSides}
+use Rattle.windows.specs.Set.{Set, windows}
+use Rattle.sheet.specs.declared.Sheet.{Sheet}
+use Rattle.sheet.specs.declared.Sheet.the-variants.{Written, Refused}
+use Rattle.sheet.specs.Answer.{badSheet, mostOf, byCase, answerOf, writtenOf}
+use Rattle.sheet.specs.Text.{sheetText}
+
+module _ (kind : FilterType) (store : ℕ) (s : Set ℤ) (old : List ℕ) where
+  -- the answer and the list at exit are the contract's
+  abbrev Meets : Sheet → List ℕ → Type 0
+  Meets answer new = (answer ≡ answerOf kind store s (length old)) × (new ≡ writtenOf kind store s old)
+
+  pub side-refused : badSides (s .lines) (windows s) ≡ true → Meets (Refused BadSide) old
+  unfolding byCase
+  side-refused h = rw h (refl, refl)
+
+  module _ (sides : badSides (s .lines) (windows s) ≡ false) where
+    pub misfit-refused : badSheet (s .lines) (s .window) (s .precision) (mostOf store) (length (s .weights)) (s .starts) (s .sizes) ≡ true → Meets (Refused DoesNotFit) old
+    unfolding byCase
+    misfit-refused h = rw (sides, h) (refl, refl)
+
+    module _ (fits : badSheet (s .lines) (s .window) (s .precision) (mostOf store) (length (s .weights)) (s .starts) (s .sizes) ≡ false) where
+      pub room-refused : length old < length (sheetText kind store s) → Meets (Refused NoRoom) old
+      unfolding byCase
+      room-refused h = rw (sides, fits, lt-ltb (length old) (length (sheetText kind store s)) h) (refl, refl)
+
+      pub all-written : {n : ℕ} {new : List ℕ} → length (sheetText kind store s) ≤ length old → n ≡ length (sheetText kind store s) → new ≡ laid old 0 (sheetText kind store s) → Meets (Written n) new
+      unfolding byCase
+      all-written h e-n e =
+          rw (sides, fits, le-ltb (length old) (length (sheetText kind store s)) h)
+          (ap Written e-n, e ∙ laid-over old (sheetText kind store s) h)

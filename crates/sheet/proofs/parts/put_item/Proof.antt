@@ -1,0 +1,68 @@
+-- `parts::put_item` meets its contract: a comma before all but the first. Assumes nothing.
+use mathlib.Core.Path.{_≡_, ap, _∙_}
+use mathlib.Core.List.{_++_}
+use native.Mathlib.Omega.{arith}
+use lib.ListN.{length, length-append}
+use mir.Facts.{toZ-ofZ}
+use borrow.Author.Needs.{needs}
+use borrow.Author.Tests.{eq-eqb, ne-eqb}
+use Rattle.lists.specs.Text.{signed}
+use Rattle.lists.proofs.TextLaws.{laid-none, laid-then, laid-byte}
+use Rattle.sheet.specs.Keys.{comma}
+use Rattle.sheet.specs.Text.{itemText}
+use Rattle.sheet.proofs.parts.put_item.Statement.{statement}
+use Rattle.sheet.proofs.parts.put_item.Tie as tie
+
+only : (c : tie.Then1) → itemText (c .before .before .args .j) (c .before .before .args .v) ≡ signed (c .before .before .args .v)
+unfolding itemText
+only c = rw (eq-eqb (c .before .before .args .j) 0 (c .if1 .taken))
+
+more : (c : tie.Else1) → itemText (c .before .before .args .j) (c .before .before .args .v) ≡ comma ++ signed (c .before .before .args .v)
+unfolding itemText
+more c = rw (ne-eqb (c .before .before .args .j) 0 (c .if1 .left))
+
+put-signed-requires : tie.Need-put-signed-requires
+put-signed-requires c κs = rw (toZ-ofZ (c .before .before .before .fits .v), ← only (c .before)) (c .before .before .before .pre)
+
+same-length : tie.Need-same-length
+same-length c = search needs
+
+returns : tie.Need-returns
+returns c =
+    let split = c .before .before .before .before in
+    let put = c .before .before .put-signed in
+    rw (only split) (
+      put .ensures .0 ∙ rw (toZ-ofZ (c .before .before .before .before .before .before .fits .v)),
+      put .ensures .1 ∙ rw (toZ-ofZ (c .before .before .before .before .before .before .fits .v)),
+    )
+
+put-byte-requires : tie.Need-put-byte-requires
+put-byte-requires c κs = omega (arith, simp length-append at (ap length (more (c .before))), c .before .before .before .pre)
+
+put-signed-requires-2 : tie.Need-put-signed-requires-2
+put-signed-requires-2 c κs =
+    rw (toZ-ofZ (c .before .before .before .before .before .before .before .fits .v)) (omega (arith, simp length-append at (ap length (more (c .before .before .before .before .before))), c .before .before .before .before .before .before .before .pre, c .before .before .before .put-byte .ensures .0))
+
+same-length-2 : tie.Need-same-length-2
+same-length-2 c = search needs
+
+returns-2 : tie.Need-returns-2
+returns-2 c =
+    let start = c .before .before .before .before .before .before .before .before .before .before in
+    let put = c .before .before .put-signed2 in
+    let same = toZ-ofZ (start .fits .v) in
+    let l1 = laid-byte 44 (laid-none (start .args .at) (start .args .out .now)) (c .before .before .before .before .before .before .put-byte .ensures .0) (c .before .before .before .before .before .before .put-byte .ensures .1) in
+    let l2 = laid-then (signed (start .args .v)) l1 (put .ensures .0 ∙ rw same) (put .ensures .1 ∙ rw same) in
+    rw (more (c .before .before .before .before .before .before .before .before)) (l2 .place, l2 .is)
+
+pub put-item-spec : {M : Type 1} → statement M
+put-item-spec =
+    tie.close
+    (tie.spec
+    put-signed-requires
+    same-length
+    returns
+    put-byte-requires
+    put-signed-requires-2
+    same-length-2
+    returns-2)

@@ -1,0 +1,52 @@
+-- `parts::put_store` meets its contract: two lines are laid one after the other. Assumes nothing.
+use native.Mathlib.Omega.{arith}
+use lib.ListN.{length-append}
+use borrow.Author.Needs.{needs}
+use Rattle.lists.proofs.TextLaws.{laid-none, laid-then, laid-long}
+use Rattle.sheet.specs.Text.{lineText}
+use Rattle.sheet.specs.Keys.{keyStore, keyPrecision}
+use Rattle.sheet.specs.Text.{storeText}
+use Rattle.sheet.proofs.parts.put_store.Statement.{statement}
+use Rattle.sheet.proofs.parts.put_store.Tie as tie
+
+slice-aggregate-put-line : tie.Need-slice-aggregate-put-line
+slice-aggregate-put-line c = search needs
+
+put-line-requires : tie.Need-put-line-requires
+unfolding storeText
+put-line-requires c κs =
+    omega (arith, simp length-append at (c .before .before .before .pre))
+
+slice-aggregate-put-line-2 : tie.Need-slice-aggregate-put-line-2
+slice-aggregate-put-line-2 c = search needs
+
+put-line-requires-2 : tie.Need-put-line-requires-2
+unfolding storeText
+put-line-requires-2 c κs =
+    omega (arith, c .before .before .before .before .put-line .ensures .0, simp length-append at (c .before .before .before .before .before .before .before .before .pre))
+
+same-length : tie.Need-same-length
+same-length c =
+    let start = c .before .before .before .before .before .before .before .before .before .before .before in
+    let l1 = laid-then (lineText keyStore (start .args .store)) (laid-none (start .args .at) (start .args .out .now)) (c .before .before .before .before .before .before .before .put-line .ensures .0) (c .before .before .before .before .before .before .before .put-line .ensures .1) in
+    let l2 = laid-then (lineText keyPrecision (start .args .precision)) l1 (c .before .before .put-line2 .ensures .0) (c .before .before .put-line2 .ensures .1) in
+    laid-long l2
+
+returns : tie.Need-returns
+unfolding storeText
+returns c =
+    let start = c .before .before .before .before .before .before .before .before .before .before .before in
+    let l1 = laid-then (lineText keyStore (start .args .store)) (laid-none (start .args .at) (start .args .out .now)) (c .before .before .before .before .before .before .before .put-line .ensures .0) (c .before .before .before .before .before .before .before .put-line .ensures .1) in
+    let l2 = laid-then (lineText keyPrecision (start .args .precision)) l1 (c .before .before .put-line2 .ensures .0) (c .before .before .put-line2 .ensures .1) in
+    (l2 .place, l2 .is)
+
+pub put-store-spec : {M : Type 1} → statement M
+put-store-spec =
+    tie.close
+    (tie.spec
+    slice-aggregate-put-line
+    put-line-requires
+    slice-aggregate-put-line-2
+    put-line-requires-2
+    same-length
+    returns)

@@ -1,0 +1,4 @@
+pub mod Answer
+pub mod Keys
+pub mod Readable
+pub mod Text

@@ -1,0 +1,65 @@
+-- The text of a sheet: six head lines, then one line for each window, a newline after each. Cited by the writers and by the parts that write it.
+-- Definitions only. Assumes nothing.
+use mathlib.Core.Bool.{cond}
+use mathlib.Core.List.{List, [], _++_}
+use Prim.Native.Nat.{ℕ, _+_, _*_}
+use lib.Dec.{eqb}
+use lib.IntN.{ℤ, pos}
+use lib.ListN.{length, getD}
+use Rattle.lists.specs.Text.{joined, decimal, signed}
+use Rattle.filters.specs.declared.FilterType.{FilterType}
+use Rattle.windows.specs.Set.{Set, windows}
+use Rattle.sheet.specs.Keys.{newline, keyKind, keyIn, keyOut, keyWindow, keyStore, keyPrecision, keyLine, equals, comma, colon, kindName}
+
+-- a key and its number
+unfoldable pub fieldText : List ℕ → ℕ → List ℕ
+fieldText key n = key ++ decimal n
+
+-- the same as a line
+unfoldable pub lineText : List ℕ → ℕ → List ℕ
+lineText key n = fieldText key n ++ newline
+
+-- the filter's line
+unfoldable pub kindText : FilterType → List ℕ
+kindText kind = keyKind ++ kindName kind ++ newline
+
+-- the camera lines, the display lines and the window size, a line each
+unfoldable pub sidesText : ℕ → ℕ → ℕ → List ℕ
+sidesText lines outs window = lineText keyIn lines ++ lineText keyOut outs ++ lineText keyWindow window
+
+-- the bits of the store and the precision, a line each
+unfoldable pub storeText : ℕ → ℕ → List ℕ
+storeText store precision = lineText keyStore store ++ lineText keyPrecision precision
+
+-- the six head lines
+unfoldable pub headText : FilterType → ℕ → ℕ → ℕ → ℕ → ℕ → List ℕ
+headText kind lines outs window store precision = kindText kind ++ sidesText lines outs window ++ storeText store precision
+
+-- weight j of a window: a comma before all but the first
+unfoldable pub itemText : ℕ → ℤ → List ℕ
+itemText j v = cond (eqb j 0) [] comma ++ signed v
+
+-- the same, of the weight in slot from + j
+abbrev pub weightAt : List ℤ → ℕ → ℕ → List ℕ
+weightAt ws from j = itemText j (getD ws (from + j) (pos 0))
+
+-- n weights from the slot `from` on: those in use
+unfoldable pub weightsText : List ℤ → ℕ → ℕ → List ℕ
+weightsText ws from n = joined (weightAt ws from) n
+
+-- the beginning of a window's line: its number, first camera line and count of lines, as in w0=0,2:
+unfoldable pub openText : ℕ → ℕ → ℕ → List ℕ
+openText i start size = fieldText keyLine i ++ fieldText equals start ++ fieldText comma size ++ colon
+
+-- the line of window i, whose weights begin at the slot i * window
+unfoldable pub windowAt : List ℕ → List ℕ → ℕ → List ℤ → ℕ → List ℕ
+windowAt starts sizes window ws i = openText i (getD starts i 0) (getD sizes i 0) ++ weightsText ws (i * window) (getD sizes i 0) ++ newline
+
+-- a line for each window, numbered from 0
+unfoldable pub windowsText : List ℕ → List ℕ → ℕ → List ℤ → List ℕ
+windowsText starts sizes window ws = joined (windowAt starts sizes window ws) (length starts)
+
+-- the whole sheet of a set: `store` is 16 or 32
+unfoldable pub sheetText : FilterType → ℕ → Set ℤ → List ℕ
+sheetText kind store s =
+    headText kind (s .lines) (windows s) (s .window) store (s .precision) ++ windowsText (s .starts) (s .sizes) (s .window) (s .weights)

@@ -1,0 +1,105 @@
+// The parts of a sheet that do not depend on the store's width.
+use crate::decimal::put_signed;
+use crate::keys;
+use crate::text::put;
+use crate::text::put_byte;
+use crate::text::put_field;
+use crate::text::put_line;
+use filters::FilterType;
+ghost use mathlib.Core.Path.{_≡_};
+ghost use Prim.Native.Nat.{_+_, _^_, _<_};
+ghost use lib.ListN.{length};
+ghost use Rattle.lists.specs.Text.{laid};
+ghost use Rattle.sheet.specs.Keys.{kindName};
+ghost use Rattle.sheet.specs.Text.{kindText, sidesText, storeText, headText, itemText, openText};
+
+// The filter's name.
+fn put_kind(kind: FilterType, at: usize, out: &mut [u8]) -> usize
+    requires { ⌜ at + length (kindName kind) < 2 ^ 64 ⌝ }
+    ensures answer { λ r. ⌜ r ≡ at + length (kindName kind) ⌝ }
+    ensures written { λ _. ⌜ now (out .exit) ≡ laid (now (out .entry)) at (kindName kind) ⌝ }
+{
+    match kind {
+        FilterType::Box => put(b"box", at, out),
+        FilterType::Bilinear => put(b"bilinear", at, out),
+        FilterType::CatmullRom => put(b"catmullrom", at, out),
+        FilterType::Mitchell => put(b"mitchell", at, out),
+    }
+}
+
+// The filter's line.
+fn put_kind_line(kind: FilterType, at: usize, out: &mut [u8]) -> usize
+    requires { ⌜ at + length (kindText kind) < 2 ^ 64 ⌝ }
+    ensures answer { λ r. ⌜ r ≡ at + length (kindText kind) ⌝ }
+    ensures written { λ _. ⌜ now (out .exit) ≡ laid (now (out .entry)) at (kindText kind) ⌝ }
+{
+    let a = put(&keys::KIND, at, out);
+    let b = put_kind(kind, a, out);
+    put_byte(b'\n', b, out)
+}
+
+// The lines of the two sides and of the window size.
+fn put_sides(lines: u64, outs: u64, window: u64, at: usize, out: &mut [u8]) -> usize
+    requires { ⌜ at + length (sidesText lines outs window) < 2 ^ 64 ⌝ }
+    ensures answer { λ r. ⌜ r ≡ at + length (sidesText lines outs window) ⌝ }
+    ensures written { λ _. ⌜ now (out .exit) ≡ laid (now (out .entry)) at (sidesText lines outs window) ⌝ }
+{
+    let a = put_line(&keys::IN, lines, at, out);
+    let b = put_line(&keys::OUT, outs, a, out);
+    put_line(&keys::WINDOW, window, b, out)
+}
+
+// The lines of the store and the precision.
+fn put_store(store: u64, precision: u64, at: usize, out: &mut [u8]) -> usize
+    requires { ⌜ at + length (storeText store precision) < 2 ^ 64 ⌝ }
+    ensures answer { λ r. ⌜ r ≡ at + length (storeText store precision) ⌝ }
+    ensures written { λ _. ⌜ now (out .exit) ≡ laid (now (out .entry)) at (storeText store precision) ⌝ }
+{
+    let a = put_line(&keys::STORE, store, at, out);
+    put_line(&keys::PRECISION, precision, a, out)
+}
+
+// The six head lines.
+pub(crate) fn put_head(
+    kind: FilterType,
+    lines: u64,
+    outs: u64,
+    window: u64,
+    store: u64,
+    precision: u64,
+    at: usize,
+    out: &mut [u8],
+) -> usize
+    requires { ⌜ at + length (headText kind lines outs window store precision) < 2 ^ 64 ⌝ }
+    ensures answer { λ r. ⌜ r ≡ at + length (headText kind lines outs window store precision) ⌝ }
+    ensures written { λ _. ⌜ now (out .exit) ≡ laid (now (out .entry)) at (headText kind lines outs window store precision) ⌝ }
+{
+    let a = put_kind_line(kind, at, out);
+    let b = put_sides(lines, outs, window, a, out);
+    put_store(store, precision, b, out)
+}
+
+// The element j of a list.
+pub(crate) fn put_item(j: usize, v: i64, at: usize, out: &mut [u8]) -> usize
+    requires { ⌜ at + length (itemText j v) < 2 ^ 64 ⌝ }
+    ensures answer { λ r. ⌜ r ≡ at + length (itemText j v) ⌝ }
+    ensures written { λ _. ⌜ now (out .exit) ≡ laid (now (out .entry)) at (itemText j v) ⌝ }
+{
+    if j == 0 {
+        return put_signed(v, at, out);
+    }
+    let p = put_byte(b',', at, out);
+    put_signed(v, p, out)
+}
+
+// The beginning of a window's line.
+pub(crate) fn put_open(i: u64, start: u32, size: u32, at: usize, out: &mut [u8]) -> usize
+    requires { ⌜ at + length (openText i start size) < 2 ^ 64 ⌝ }
+    ensures answer { λ r. ⌜ r ≡ at + length (openText i start size) ⌝ }
+    ensures written { λ _. ⌜ now (out .exit) ≡ laid (now (out .entry)) at (openText i start size) ⌝ }
+{
+    let a = put_field(&keys::LINE, i, at, out);
+    let b = put_field(&keys::EQUALS, start as u64, a, out);
+    let c = put_field(&keys::COMMA, size as u64, b, out);
+    put_byte(b':', c, out)
+}
