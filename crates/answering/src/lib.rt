@@ -36,5 +36,8 @@ fn by_group(line: &[u8], w: Words, n: usize, out: &mut [u8]) -> usize {
     if ask_passes::knows(line, w) {
         return ask_passes::answer(line, w, n, out);
     }
+    if ask_sheet::knows(line, w) {
+        return ask_sheet::answer(line, w, n, out);
+    }
     emit::bad(n, out)
 }
