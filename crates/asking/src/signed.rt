@@ -24,7 +24,7 @@ fn negative(size: Num) -> Num {
         return Num::Bad;
     };
     if x == 0 {
-        return Num::Is(0);
+        return Num::Bad;
     }
     if 0xffff_ffff < x {
         return Num::Bad;
