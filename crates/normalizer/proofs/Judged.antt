@@ -1,4 +1,4 @@
--- The judge's answer, test by test, and what an answer of `Done p` says of the set. Cited by `judge` and by both normalisers, over any (bits, limit).
+-- The judge's answer, test by test, what an answer of `Done p` says of the set, and the list afterwards. Cited by `judge` and by both normalisers, over any (bits, limit).
 -- Assumes nothing.
 use mathlib.Core.Path.{_≡_, refl, sym, ap, _∙_}
 use mathlib.Core.Bool.{Bool, true, false, not}
@@ -7,10 +7,11 @@ use Prim.Native.Nat.{ℕ, _-_, _*_, _^_, _≤_, _<_}
 use native.Mathlib.Nat.{lt-of-le-of-lt, le-of-lt, mul-le-mul}
 use native.Mathlib.Omega.{arith}
 use lib.Dec.{ltb, lit<}
+use lib.IntN.{ℤ}
 use lib.ListN.{length}
 use lib.Ieee.{Float}
 use borrow.Author.Tests.{ltb-false}
-use Rattle.lists.specs.Tab.{any}
+use Rattle.lists.specs.Tab.{any, front}
 use Rattle.lists.proofs.BoolLaws.{never, or-right, ladder}
 use Rattle.lists.proofs.FirstLaws.{first-le}
 use Rattle.refusal.specs.declared.Refusal.{Refusal}
@@ -19,7 +20,8 @@ use Rattle.windows.specs.Fit.{badSides, badSet}
 use Rattle.windows.specs.Set.{Set, windows}
 use Rattle.windows.proofs.Fits.{Sides, sides-fit, Fits, set-fits}
 use Rattle.normalizer.specs.Precision.{precision, reaches, largest}
-use Rattle.normalizer.specs.Answer.{notFinite, leaves, badPrecision, tooFewSlots, badWeights, normalizedOf, numberOf, precisionIn}
+use Rattle.normalizer.specs.Answer.{notFinite, leaves, badPrecision, tooFewSlots, badWeights, normalizedOf, slotAt, writtenBy, writtenOf, numberOf, precisionIn}
+use Rattle.normalizer.specs.declared.Normalized.{Normalized}
 use Rattle.normalizer.specs.declared.Normalized.the-variants.{Done, Refused}
 
 -- r says that a test b failed
@@ -101,3 +103,13 @@ module _ (bits limit : ℕ) (s : Set Float) (room : ℕ) where
         enough = ltb-false room (windows s * s .window) (b .0);
         inside = rw e l;
       }
+
+-- the list afterwards, by the answer
+pub refused-written : (bits limit : ℕ) (s : Set Float) (refusal : Refusal) (old : List ℤ) → normalizedOf bits limit s (length old) ≡ Refused refusal → old ≡ writtenOf bits limit s old
+unfolding writtenOf writtenBy
+refused-written bits limit s refusal old h = ap (λ (answer : Normalized). writtenBy limit s answer old) (sym h)
+
+pub done-written : (bits limit : ℕ) (s : Set Float) (p : ℕ) (old after : List ℤ) → normalizedOf bits limit s (length old) ≡ Done p → after ≡ front (length (s .weights)) (slotAt limit p s) old → after ≡ writtenOf bits limit s old
+unfolding writtenOf writtenBy
+done-written bits limit s p old after h e =
+    e ∙ ap (λ (n : ℕ). front n (slotAt limit p s) old) (ready bits limit s (length old) p h .fits .counts .full) ∙ ap (λ (answer : Normalized). writtenBy limit s answer old) (sym h)

@@ -20,11 +20,9 @@ with16 p = record { precision = p }
 abbrev with32 : ℕ → Normalizer32
 with32 p = record { precision = p }
 
-pub Normalizer16-new-decides : DecidesResult new16.ps new16.r new16-reads.Post
-Normalizer16-new-decides κs a x y s t p q = ap with16 (p ∙ sym q)
-
-pub Normalizer32-new-decides : DecidesResult new32.ps new32.r new32-reads.Post
-Normalizer32-new-decides κs a x y s t p q = ap with32 (p ∙ sym q)
+-- of `Normalizer16::new` and of `Normalizer32::new`
+pub new-decides : DecidesResult new16.ps new16.r new16-reads.Post × DecidesResult new32.ps new32.r new32-reads.Post
+new-decides = (λ κs a x y s t p q. ap with16 (p ∙ sym q), λ κs a x y s t p q. ap with32 (p ∙ sym q))
 
 pub normalize16-decides : Decides normalize16.ps normalize16.r normalize16-reads.Post (λ κs s t. now (s .1 .1 .1 .1 .1 .0) ≡ now (t .1 .1 .1 .1 .1 .0))
 normalize16-decides κs a x y s t p q = (p .0 ∙ sym (q .0), p .1 ∙ sym (q .1))

@@ -9,11 +9,7 @@ ghost use lib.ListN.{length};
 ghost use Rattle.windows.specs.Set.{setOf};
 ghost use Rattle.normalizer.specs.Precision.{precision};
 ghost use Rattle.normalizer.specs.Answer.{normalizedOf, writtenOf};
-use judge::judge;
-use precision::precision;
 use refusal::Refusal;
-use store::store16;
-use store::store32;
 
 pub enum Normalized {
     // the precision
@@ -36,7 +32,7 @@ impl Normalizer16 {
         ensures answer { λ r. ⌜ r .precision ≡ precision 22 15 (now (weights .entry)) ⌝ }
     {
         Normalizer16 {
-            precision: precision(weights, Self::BITS, Self::LIMIT),
+            precision: precision::precision(weights, Self::BITS, Self::LIMIT),
         }
     }
 }
@@ -56,7 +52,7 @@ impl Normalizer32 {
         ensures answer { λ r. ⌜ r .precision ≡ precision 46 31 (now (weights .entry)) ⌝ }
     {
         Normalizer32 {
-            precision: precision(weights, Self::BITS, Self::LIMIT),
+            precision: precision::precision(weights, Self::BITS, Self::LIMIT),
         }
     }
 }
@@ -73,7 +69,7 @@ pub fn normalize16(
     ensures answer { λ r. ⌜ r ≡ normalizedOf 22 15 (setOf lines window (now (weights .entry)) (now (starts .entry)) (now (sizes .entry)) 0) (length (now (out .entry))) ⌝ }
     ensures written { λ _. ⌜ now (out .exit) ≡ writtenOf 22 15 (setOf lines window (now (weights .entry)) (now (starts .entry)) (now (sizes .entry)) 0) (now (out .entry)) ⌝ }
 {
-    let answer = judge(
+    let answer = judge::judge(
         Normalizer16::BITS,
         Normalizer16::LIMIT,
         lines,
@@ -86,7 +82,7 @@ pub fn normalize16(
     let Normalized::Done(p) = answer else {
         return answer;
     };
-    store16(p, window, weights, sizes, out);
+    store::store16(p, window, weights, sizes, out);
     answer
 }
 
@@ -102,7 +98,7 @@ pub fn normalize32(
     ensures answer { λ r. ⌜ r ≡ normalizedOf 46 31 (setOf lines window (now (weights .entry)) (now (starts .entry)) (now (sizes .entry)) 0) (length (now (out .entry))) ⌝ }
     ensures written { λ _. ⌜ now (out .exit) ≡ writtenOf 46 31 (setOf lines window (now (weights .entry)) (now (starts .entry)) (now (sizes .entry)) 0) (now (out .entry)) ⌝ }
 {
-    let answer = judge(
+    let answer = judge::judge(
         Normalizer32::BITS,
         Normalizer32::LIMIT,
         lines,
@@ -115,6 +111,6 @@ pub fn normalize32(
     let Normalized::Done(p) = answer else {
         return answer;
     };
-    store32(p, window, weights, sizes, out);
+    store::store32(p, window, weights, sizes, out);
     answer
 }

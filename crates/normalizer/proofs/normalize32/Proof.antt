@@ -1,15 +1,14 @@
 -- `normalize32`: a refusal leaves the list as it was; where the answer is `Done p` the judge's tests (`ready`) are what the store asks. Assumes nothing.
 use Rattle.normalizer.proofs.normalize32.Statement.{statement}
 use Rattle.normalizer.proofs.normalize32.Tie as tie
-use mathlib.Core.Path.{refl, sym, ap, _∙_}
+use mathlib.Core.Path.{sym, ap, _∙_}
 use borrow.Author.Needs.{needs}
 use native.Mathlib.Omega.{arith}
 use Prim.Native.Nat.{ℕ, _*_}
 use native.Mathlib.Nat.{lt-of-le-of-lt, le-of-eq, le-trans}
 use lib.ListN.{length}
 use Rattle.windows.specs.Set.{setOf}
-use Rattle.normalizer.specs.Answer.{writtenOf, writtenBy}
-use Rattle.normalizer.proofs.Judged.{precision-small, ready}
+use Rattle.normalizer.proofs.Judged.{precision-small, ready, refused-written, done-written}
 
 judge-requires : tie.Need-judge-requires
 judge-requires c κs = (omega arith, (omega arith, omega arith))
@@ -21,8 +20,9 @@ enum-told : tie.Need-enum-told
 enum-told c = search needs
 
 returns : tie.Need-returns
-unfolding writtenOf writtenBy
-returns c = (c .before .before .judge .ensures, rw (sym (c .before .before .judge .ensures) ∙ c .enum-told .given .1) refl)
+returns c =
+    let judged = c .before .before .judge .ensures in
+    (judged, refused-written 46 31 _ _ _ (sym judged ∙ c .enum-told .given .1))
 
 store32-requires : tie.Need-store32-requires
 store32-requires c κs =
@@ -38,12 +38,10 @@ same-length : tie.Need-same-length
 same-length c = search needs
 
 returns-2 : tie.Need-returns-2
-unfolding writtenOf writtenBy
 returns-2 c =
     let at = c .before .before .before .before in
-    let start = at .before .before .before .before .before .before in
-    let set = ready 46 31 (setOf (start .args .lines) (start .args .window) (start .args .weights .now) (start .args .starts .now) (start .args .sizes .now) 0) (length (start .args .out .now)) (at .answer .given .0 .0) (sym (at .before .before .judge .ensures) ∙ at .answer .given .1) in
-    (sym (at .answer .given .1) ∙ at .before .before .judge .ensures, rw (sym (at .before .before .judge .ensures) ∙ at .answer .given .1, ← (set .fits .counts .full)) (c .before .store32 .ensures))
+    let judged = at .before .before .judge .ensures in
+    (sym (at .answer .given .1) ∙ judged, done-written 46 31 _ _ _ _ (sym judged ∙ at .answer .given .1) (c .before .store32 .ensures))
 
 pub normalize32-spec : {M : Type 1} → statement M
 normalize32-spec =

@@ -13,6 +13,8 @@ use Rattle.normalizer.specs.Precision.{larger, largest}
 use native.Mathlib.Numerals.{add-one}
 use mathlib.Core.List.{List, [], _∷_}
 use Prim.Native.Nat.{_<_}
+use mathlib.Core.Path.{ap, _∙_}
+use Prim.Native.Nat.{ℕ}
 
 nothing : (l : List Float) → length l ≡ 0 → zero64 ≡ largest l
 unfolding largest
@@ -59,8 +61,9 @@ loop-again c = (omega arith, rw (add-one, ← (c .before .before .before .loop .
 returns-2 : tie.Need-returns-2 Inv-loop μ-loop
 unfolding largest
 returns-2 c =
-    let all : c .before .loop .k ≡ length (c .before .before .before .before .before .args .weights .now) = omega arith in
-    rw (← all) (c .before .loop .inv .1)
+    let weights = c .before .before .before .before .before .args .weights .now in
+    let all : c .before .loop .k ≡ length weights = omega arith in
+    c .before .loop .inv .1 ∙ ap (λ (n : ℕ). turns (λ x k. larger x (getD weights k nan)) (getD weights 0 zero64) n) all
 
 pub largest-spec : {M : Type 1} → statement M
 largest-spec =
