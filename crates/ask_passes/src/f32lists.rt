@@ -2,9 +2,7 @@
 use crate::f32pass;
 use crate::frame::Frame;
 use asking::Words;
-use asking::f32s;
 use asking::f64s;
-use asking::fields;
 use asking::u32s;
 use telling::emit;
 
@@ -14,7 +12,7 @@ pub(crate) fn small(f: Frame, line: &[u8], w: Words, n: usize, out: &mut [u8]) -
     let mut sizes = [0u32; 1024];
     let mut samples = [0.0f32; 1024];
     let mut lent = [0.0f32; 1024];
-    read(
+    read_weights(
         f,
         line,
         w,
@@ -34,7 +32,7 @@ pub(crate) fn large(f: Frame, line: &[u8], w: Words, n: usize, out: &mut [u8]) -
     let mut sizes = [0u32; 16384];
     let mut samples = [0.0f32; 32768];
     let mut lent = [0.0f32; 131072];
-    read(
+    read_weights(
         f,
         line,
         w,
@@ -48,7 +46,7 @@ pub(crate) fn large(f: Frame, line: &[u8], w: Words, n: usize, out: &mut [u8]) -
     )
 }
 
-fn read(
+fn read_weights(
     f: Frame,
     line: &[u8],
     w: Words,
@@ -65,6 +63,33 @@ fn read(
     if weights.len() < slots {
         return emit::bad(n, out);
     }
+    read_windows(
+        f,
+        &weights[a..slots],
+        line,
+        w,
+        n,
+        out,
+        starts,
+        sizes,
+        samples,
+        lent,
+    )
+}
+
+fn read_windows(
+    f: Frame,
+    weights: &[f64],
+    line: &[u8],
+    w: Words,
+    n: usize,
+    out: &mut [u8],
+    starts: &mut [u32],
+    sizes: &mut [u32],
+    samples: &mut [f32],
+    lent: &mut [f32],
+) -> usize {
+    let a: usize = 0;
     let i = u32s::read(line, w, 7, starts);
     if starts.len() < i {
         return emit::bad(n, out);
@@ -73,22 +98,16 @@ fn read(
     if sizes.len() < j {
         return emit::bad(n, out);
     }
-    let k = f32s::read(line, w, 9, samples);
-    if samples.len() < k {
-        return emit::bad(n, out);
-    }
-    let m = fields::length_at(line, w, 10);
-    if lent.len() < m {
-        return emit::bad(n, out);
-    }
-    f32pass::pass(
+    f32pass::read_samples(
         f,
-        &weights[a..slots],
+        weights,
         &starts[a..i],
         &sizes[a..j],
-        &samples[a..k],
-        &mut lent[a..m],
+        line,
+        w,
         n,
         out,
+        samples,
+        lent,
     )
 }

@@ -23,7 +23,40 @@ pub(crate) fn answer(line: &[u8], w: Words, n: usize, out: &mut [u8]) -> usize {
     f32lists::large(f, line, w, n, out)
 }
 
-pub(crate) fn pass(
+pub(crate) fn read_samples(
+    f: Frame,
+    weights: &[f64],
+    starts: &[u32],
+    sizes: &[u32],
+    line: &[u8],
+    w: Words,
+    n: usize,
+    out: &mut [u8],
+    samples: &mut [f32],
+    lent: &mut [f32],
+) -> usize {
+    let a: usize = 0;
+    let i = f32s::read(line, w, 9, samples);
+    if samples.len() < i {
+        return emit::bad(n, out);
+    }
+    let m = fields::length_at(line, w, 10);
+    if lent.len() < m {
+        return emit::bad(n, out);
+    }
+    pass(
+        f,
+        weights,
+        starts,
+        sizes,
+        &samples[a..i],
+        &mut lent[a..m],
+        n,
+        out,
+    )
+}
+
+fn pass(
     f: Frame,
     weights: &[f64],
     starts: &[u32],

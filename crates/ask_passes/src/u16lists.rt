@@ -2,9 +2,7 @@
 use crate::frame::Frame;
 use crate::u16pass;
 use asking::Words;
-use asking::fields;
 use asking::i32s;
-use asking::u16s;
 use asking::u32s;
 use telling::emit;
 
@@ -21,7 +19,7 @@ pub(crate) fn small(
     let mut sizes = [0u32; 1024];
     let mut samples = [0u16; 1024];
     let mut lent = [0u16; 1024];
-    read(
+    read_weights(
         f,
         precision,
         line,
@@ -49,7 +47,7 @@ pub(crate) fn large(
     let mut sizes = [0u32; 16384];
     let mut samples = [0u16; 131072];
     let mut lent = [0u16; 131072];
-    read(
+    read_weights(
         f,
         precision,
         line,
@@ -64,7 +62,7 @@ pub(crate) fn large(
     )
 }
 
-fn read(
+fn read_weights(
     f: Frame,
     precision: u32,
     line: &[u8],
@@ -82,6 +80,35 @@ fn read(
     if weights.len() < slots {
         return emit::bad(n, out);
     }
+    read_windows(
+        f,
+        precision,
+        &weights[a..slots],
+        line,
+        w,
+        n,
+        out,
+        starts,
+        sizes,
+        samples,
+        lent,
+    )
+}
+
+fn read_windows(
+    f: Frame,
+    precision: u32,
+    weights: &[i32],
+    line: &[u8],
+    w: Words,
+    n: usize,
+    out: &mut [u8],
+    starts: &mut [u32],
+    sizes: &mut [u32],
+    samples: &mut [u16],
+    lent: &mut [u16],
+) -> usize {
+    let a: usize = 0;
     let i = u32s::read(line, w, 8, starts);
     if starts.len() < i {
         return emit::bad(n, out);
@@ -90,23 +117,17 @@ fn read(
     if sizes.len() < j {
         return emit::bad(n, out);
     }
-    let k = u16s::read(line, w, 10, samples);
-    if samples.len() < k {
-        return emit::bad(n, out);
-    }
-    let m = fields::length_at(line, w, 11);
-    if lent.len() < m {
-        return emit::bad(n, out);
-    }
-    u16pass::pass(
+    u16pass::read_samples(
         f,
         precision,
-        &weights[a..slots],
+        weights,
         &starts[a..i],
         &sizes[a..j],
-        &samples[a..k],
-        &mut lent[a..m],
+        line,
+        w,
         n,
         out,
+        samples,
+        lent,
     )
 }

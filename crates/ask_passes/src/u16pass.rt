@@ -28,7 +28,42 @@ pub(crate) fn answer(line: &[u8], w: Words, n: usize, out: &mut [u8]) -> usize {
     u16lists::large(f, precision, line, w, n, out)
 }
 
-pub(crate) fn pass(
+pub(crate) fn read_samples(
+    f: Frame,
+    precision: u32,
+    weights: &[i32],
+    starts: &[u32],
+    sizes: &[u32],
+    line: &[u8],
+    w: Words,
+    n: usize,
+    out: &mut [u8],
+    samples: &mut [u16],
+    lent: &mut [u16],
+) -> usize {
+    let a: usize = 0;
+    let i = u16s::read(line, w, 10, samples);
+    if samples.len() < i {
+        return emit::bad(n, out);
+    }
+    let m = fields::length_at(line, w, 11);
+    if lent.len() < m {
+        return emit::bad(n, out);
+    }
+    pass(
+        f,
+        precision,
+        weights,
+        starts,
+        sizes,
+        &samples[a..i],
+        &mut lent[a..m],
+        n,
+        out,
+    )
+}
+
+fn pass(
     f: Frame,
     precision: u32,
     weights: &[i32],
