@@ -6,7 +6,7 @@ use lib.Ieee.{Float, nan, binary64, round, ofBits, ofInt, add, sub, mul, div, ne
 use Rattle.floats.specs.Doubles.{zero64, half64, one64, double}
 use Rattle.numbers.specs.Whole.{abs}
 use Rattle.crop_box.specs.Crop.{cropOf, numberOf}
-use Rattle.crop_box.specs.Fit.{fitOf, ratioBox, epsilon64, boxOf, numberOf as fitNumberOf}
+use Rattle.crop_box.specs.Fit.{fitOf, fittedBox, ratioBox, epsilon64, boxOf, numberOf as fitNumberOf}
 use Rattle.crop_box.specs.declared.CropBox.{CropBox}
 use Rattle.crop_box.specs.declared.Centring.the-variants.{Absent, At}
 
@@ -28,11 +28,11 @@ at-the-side = refl
 
 -- 2 x 1 into 1 x 1: the left and right quarters are cut; a centring of minus zero keeps its sign
 pub square-of-two : boxOf (fitOf 2 1 1 1 Absent) ≡ box half64 zero64 one64 one64
-unfolding fitOf ratioBox ofBits ofInt round sub mul div lt le abs
+unfolding fitOf fittedBox ratioBox ofBits ofInt round sub mul div lt le abs
 square-of-two = refl
 
 pub minus-zero-stays : boxOf (fitOf 2 1 1 1 (At (neg zero64) one64)) ≡ box (neg zero64) zero64 one64 one64
-unfolding fitOf ratioBox ofBits ofInt round sub mul div neg lt le abs
+unfolding fitOf fittedBox ratioBox ofBits ofInt round sub mul div neg lt le abs
 minus-zero-stays = refl
 
 -- a bad centring is No. 2 beside a zero side too

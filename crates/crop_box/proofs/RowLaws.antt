@@ -98,8 +98,7 @@ numbered false false false false true x = refl
 numbered false false false false false x = refl
 
 -- the fitting's number, that of the first of its two rows
-pub fit-numbered : (a b c : Bool) (x y : CropBox) → fitNumberOf (cond a (FitRefused BadSide) (cond b (FitRefused NotFinite) (cond c (Fit x) (Fit y)))) ≡ firstRow a b false false false
-fit-numbered true b c x y = refl
-fit-numbered false true c x y = refl
-fit-numbered false false true x y = refl
-fit-numbered false false false x y = refl
+pub fit-numbered : (a b : Bool) (x : CropBox) → fitNumberOf (cond a (FitRefused BadSide) (cond b (FitRefused NotFinite) (Fit x))) ≡ firstRow a b false false false
+fit-numbered true b x = refl
+fit-numbered false true x = refl
+fit-numbered false false x = refl

@@ -6,7 +6,7 @@ use mathlib.Core.Bool.{true, false}
 use Prim.Native.Nat.{ℕ}
 use Rattle.floats.specs.Doubles.{double, _over_}
 use Rattle.crop_box.specs.Crop.{badSides, notFinite, negativeExtent, startOutside, endOutside, cropOf, numberOf}
-use Rattle.crop_box.specs.Fit.{largeSides, badCentring, zeroSide, sourceBox, ratioBox, acrossOf, downOf, fitOf, numberOf as fitNumberOf}
+use Rattle.crop_box.specs.Fit.{largeSides, badCentring, fittedBox, acrossOf, downOf, fitOf, numberOf as fitNumberOf}
 use Rattle.crop_box.specs.declared.CropBox.{CropBox}
 use Rattle.crop_box.specs.declared.Centring.{Centring}
 use Rattle.crop_box.proofs.RowLaws.{Exactly, firstRow, row-0, row-1, row-2, row-3, row-4, row-5, numbered, fit-numbered}
@@ -45,8 +45,7 @@ module _ (sw sh dw dh : ℕ) (at : Centring) where
   fit-is : fitNumberOf (fitOf sw sh dw dh at) ≡ firstRow (largeSides sw sh dw dh) (badCentring at) false false false
   unfolding fitOf
   fit-is =
-      fit-numbered (largeSides sw sh dw dh) (badCentring at) (zeroSide sw sh dw dh) (sourceBox sw sh)
-      (ratioBox (double sw) (double sh) (double dw over double dh) (acrossOf at) (downOf at))
+      fit-numbered (largeSides sw sh dw dh) (badCentring at) (fittedBox sw sh dw dh (acrossOf at) (downOf at))
 
   pub fit-1 : Exactly (fitNumberOf (fitOf sw sh dw dh at) ≡ 1) (largeSides sw sh dw dh ≡ true)
   fit-1 = rw fit-is (row-1 (largeSides sw sh dw dh) (badCentring at) false false false)

@@ -61,13 +61,17 @@ ratioBox width height required across down =
     (cond (le required (width over height)) (placedBox width height (required times height) height across down)
     (placedBox width height width (width over required) across down))
 
--- No. 1, No. 2, then the source's box for a zero side, then the box of the display's ratio
+-- the source's box where any side is 0, else the box of the display's ratio
+unfoldable pub fittedBox : ℕ → ℕ → ℕ → ℕ → Float → Float → CropBox
+fittedBox sw sh dw dh across down =
+    cond (zeroSide sw sh dw dh) (sourceBox sw sh) (ratioBox (double sw) (double sh) (double dw over double dh) across down)
+
+-- No. 1, then No. 2, then the box
 unfoldable pub fitOf : ℕ → ℕ → ℕ → ℕ → Centring → Fitted
 fitOf sw sh dw dh centring =
     cond (largeSides sw sh dw dh) (Refused BadSide)
     (cond (badCentring centring) (Refused NotFinite)
-    (cond (zeroSide sw sh dw dh) (Fit (sourceBox sw sh))
-    (Fit (ratioBox (double sw) (double sh) (double dw over double dh) (acrossOf centring) (downOf centring)))))
+    (Fit (fittedBox sw sh dw dh (acrossOf centring) (downOf centring))))
 
 -- the paper's number for each answer of the fitting
 abbrev pub numberOf : Fitted → ℕ

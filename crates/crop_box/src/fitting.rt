@@ -1,12 +1,11 @@
 // Fitting, operation by operation as in crop_box.rs of the Rust.
 ghost use mathlib.Core.Path.{_≡_};
-ghost use Rattle.crop_box.specs.Fit.{fitOf, largeSides, zeroSide, placedBox, ratioBox};
+ghost use Rattle.crop_box.specs.Fit.{fitOf, largeSides, zeroSide, placedBox, ratioBox, fittedBox};
 use crate::Centring;
 use crate::CropBox;
 use crate::Fitted;
-use crate::bad_centring;
-use crate::centre_across;
-use crate::centre_down;
+use crate::clamp01;
+use crate::finite;
 use refusal::Refusal;
 
 // 2^-52, the step from 1 to the next double.
@@ -59,7 +58,32 @@ fn ratio_box(width: f64, height: f64, required: f64, across: f64, down: f64) -> 
     placed(width, height, width, width / required, across, down)
 }
 
-// The box of the display's ratio of sides; the source's sides where any side is 0; or the first refusal that applies.
+// The box of the display's ratio of sides, for a centring that is clamped; left 0, top 0 and the source's sides where any side is 0.
+fn fitted(
+    src_width: u32,
+    src_height: u32,
+    dst_width: u32,
+    dst_height: u32,
+    across: f64,
+    down: f64,
+) -> CropBox
+    ensures answer { λ r. ⌜ r ≡ fittedBox «src_width» «src_height» «dst_width» «dst_height» across down ⌝ }
+{
+    let width = src_width as f64;
+    let height = src_height as f64;
+    if zero_side(src_width, src_height, dst_width, dst_height) {
+        return CropBox {
+            left: 0.0,
+            top: 0.0,
+            width: width,
+            height: height,
+        };
+    }
+    let required = dst_width as f64 / dst_height as f64;
+    ratio_box(width, height, required, across, down)
+}
+
+// The fitted box, or the first refusal that applies, for any sides and any centring. Absent centring means 0.5, 0.5 and cannot be bad.
 pub fn fit_src_into_dst_size(
     src_width: u32,
     src_height: u32,
@@ -72,25 +96,27 @@ pub fn fit_src_into_dst_size(
     if large_sides(src_width, src_height, dst_width, dst_height) {
         return Fitted::Refused(Refusal::BadSide);
     }
-    if bad_centring(centring) {
-        return Fitted::Refused(Refusal::NotFinite);
+    match centring {
+        Centring::Absent => Fitted::Fit(fitted(
+            src_width,
+            src_height,
+            dst_width,
+            dst_height,
+            0.5,
+            0.5,
+        )),
+        Centring::At(across, down) => {
+            if !(finite(across) & finite(down)) {
+                return Fitted::Refused(Refusal::NotFinite);
+            }
+            Fitted::Fit(fitted(
+                src_width,
+                src_height,
+                dst_width,
+                dst_height,
+                clamp01(across),
+                clamp01(down),
+            ))
+        }
     }
-    let width = src_width as f64;
-    let height = src_height as f64;
-    if zero_side(src_width, src_height, dst_width, dst_height) {
-        return Fitted::Fit(CropBox {
-            left: 0.0,
-            top: 0.0,
-            width: width,
-            height: height,
-        });
-    }
-    let required = dst_width as f64 / dst_height as f64;
-    Fitted::Fit(ratio_box(
-        width,
-        height,
-        required,
-        centre_across(centring),
-        centre_down(centring),
-    ))
 }

@@ -5,7 +5,7 @@ mod fitting;
 
 ghost use mathlib.Core.Path.{_≡_};
 ghost use Rattle.floats.specs.Doubles.{isFinite};
-ghost use Rattle.crop_box.specs.Fit.{badCentring, clamped, acrossOf, downOf};
+ghost use Rattle.crop_box.specs.Fit.{clamped};
 pub use checks::crop;
 pub use fitting::fit_src_into_dst_size;
 use refusal::Refusal;
@@ -42,16 +42,6 @@ fn finite(x: f64) -> bool
     (-inf < x) & (x < inf)
 }
 
-// No. 2: a centring number that is NaN or infinite.
-fn bad_centring(centring: Centring) -> bool
-    ensures answer { λ r. ⌜ r ≡ badCentring centring ⌝ }
-{
-    match centring {
-        Centring::Absent => false,
-        Centring::At(across, down) => !(finite(across) & finite(down)),
-    }
-}
-
 // x clamped to 0..1; minus zero stays as it is.
 fn clamp01(x: f64) -> f64
     ensures answer { λ r. ⌜ r ≡ clamped x ⌝ }
@@ -63,24 +53,4 @@ fn clamp01(x: f64) -> f64
         return 1.0;
     }
     x
-}
-
-// Across the image: 0.5 where the centring is absent.
-fn centre_across(centring: Centring) -> f64
-    ensures answer { λ r. ⌜ r ≡ acrossOf centring ⌝ }
-{
-    match centring {
-        Centring::Absent => 0.5,
-        Centring::At(across, _) => clamp01(across),
-    }
-}
-
-// Down the image, likewise.
-fn centre_down(centring: Centring) -> f64
-    ensures answer { λ r. ⌜ r ≡ downOf centring ⌝ }
-{
-    match centring {
-        Centring::Absent => 0.5,
-        Centring::At(_, down) => clamp01(down),
-    }
 }

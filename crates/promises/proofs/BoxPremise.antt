@@ -37,7 +37,7 @@ use Rattle.vertical.specs.U16.{written16}
 use Rattle.normalizer.specs.declared.Normalized.{Normalized}
 use Rattle.normalizer.specs.declared.Normalized.the-variants.{Done as Normal, Refused}
 use Rattle.normalizer.specs.Precision.{power, scaled, precision, integer}
-use Rattle.normalizer.specs.Answer.{inUse, holds, leaves, notFinite, badPrecision, badWeights, tooFewSlots, normalizedOf, slotAt, writtenBy}
+use Rattle.normalizer.specs.Answer.{inUse, holds, leaves, notFinite, badPrecision, badWeights, tooFewSlots, normalizedOf, slotAt, writtenBy, writtenOf}
 use Rattle.filters.specs.declared.FilterType.the-variants.{Box}
 use Rattle.coefficients.specs.declared.Request.{Request}
 use Rattle.coefficients.specs.declared.Built.the-variants.{Done as Built}
@@ -200,11 +200,12 @@ module _ (q : Request) (lines : ℕ) (ws : List Float) (ss zs : List ℕ) (w : �
 
     -- every slot in use of the stored set holds that integer
     stored-at : (k : ℕ) → k < n → getD (stored q lines ws ss zs w out P .weights) (i * w + k) (pos 0) ≡ pos (each n P some many (exact .1))
-    unfolding writtenBy
+    unfolding writtenOf writtenBy
     stored-at k l =
         let x = i * w + k in
         let there : x < windows s * w = lt-of-lt-of-le (place k l) (le-of-eq (ap (λ (m : ℕ). m * w) (sym long))) in
-        getD-take (windows s * w) (front (windows s * w) (slotAt 31 P s) out) x (pos 0) there
+        ap (λ (a : Normalized). getD (take (windows s * w) (writtenBy 31 s a out)) x (pos 0)) normal
+        ∙ getD-take (windows s * w) (front (windows s * w) (slotAt 31 P s) out) x (pos 0) there
         ∙ front-below (windows s * w) (slotAt 31 P s) out x (pos 0) there
         ∙ ap (λ (t : Bool). cond t (integer 31 P (getD (s .weights) x nan)) (pos 0)) (used k l)
         ∙ ap (integer 31 P) (share k l)

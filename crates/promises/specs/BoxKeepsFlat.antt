@@ -14,7 +14,7 @@ use Rattle.coefficients.specs.declared.Request.{Request}
 use Rattle.coefficients.specs.declared.Built.the-variants.{Done as Built}
 use Rattle.coefficients.specs.Request.{builtOf, weightsOf, startsOf, sizesOf}
 use Rattle.normalizer.specs.declared.Normalized.the-variants.{Done as Normal}
-use Rattle.normalizer.specs.Answer.{normalizedOf, writtenBy}
+use Rattle.normalizer.specs.Answer.{normalizedOf, writtenOf}
 use Rattle.vertical.specs.declared.Passed.the-variants.{Done}
 use Rattle.vertical.specs.U16.{passed16, written16}
 use Rattle.promises.specs.FlatFrames.{NearOne, Flat}
@@ -26,9 +26,9 @@ builtSet q lines ws ss zs w =
     (take (q .output) (startsOf q (length ws) (length ss) (length zs) ss))
     (take (q .output) (sizesOf q (length ws) (length ss) (length zs) zs)) 0
 
--- the set that the 32-bit normaliser makes of a set, at the precision P, in a lent list
+-- the set that the 32-bit normaliser leaves of a set in a lent list: the asked slots, with the precision P of its answer
 abbrev pub storedSet : Set Float → ℕ → List ℤ → Set ℤ
-storedSet s P out = setOf (s .lines) (s .window) (take (windows s * s .window) (writtenBy 31 s (Normal P) out)) (s .starts) (s .sizes) P
+storedSet s P out = setOf (s .lines) (s .window) (take (windows s * s .window) (writtenOf 46 31 s out)) (s .starts) (s .sizes) P
 
 -- the builder accepts q with the window size w, and the normaliser accepts what it built with the precision P
 module _ (q : Request) (lines : ℕ) (ws : List Float) (ss zs : List ℕ) (w : ℕ) (out : List ℤ) (P : ℕ) where

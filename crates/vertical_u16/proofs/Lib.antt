@@ -1,4 +1,4 @@
-pub mod Clips
+pub mod ReadBack
 pub mod Sizes
 pub mod Values
 pub mod Judged

@@ -2,7 +2,7 @@
 -- own contract cites `vertical`. Definitions only. Assumes nothing.
 use mathlib.Core.List.{List}
 use Prim.Native.Nat.{ℕ, _+_, _*_}
-use lib.IntN.{ℤ, pos, negsuc}
+use lib.IntN.{ℤ, pos}
 use lib.ListN.{getD, take, drop}
 use Rattle.integers.specs.Sums.{total, shifted, clipped}
 
@@ -16,11 +16,6 @@ lineAt src at row k = getD src (at + k * row) 0
 -- weight times sample, over n lines
 unfoldable pub columnSum : List ℤ → List ℕ → ℕ → ℕ → ℕ → ℤ
 columnSum ws src at row n = total (weightAt ws) (lineAt src at row) n
-
--- the number itself, or 0 below 0
-unfoldable pub natural : ℤ → ℕ
-natural (pos a) = a
-natural (negsuc a) = 0
 
 abbrev pub columnValue : List ℤ → List ℕ → ℕ → ℕ → ℕ → ℕ → ℕ
 columnValue ws src at row n p = clipped 65535 (shifted p (columnSum ws src at row n))

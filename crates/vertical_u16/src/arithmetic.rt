@@ -1,10 +1,10 @@
-// Sums and roundings of one sample: i64 arithmetic that cannot wrap, and the clip as a minimum of a maximum, which compiles to no branch.
+// Sums and roundings of one sample: i64 arithmetic that cannot wrap, then the shift and the clip.
+use clips::clip16;
 ghost use mathlib.Core.Path.{_≡_};
 ghost use Prim.Native.Nat.{_-_, _^_, _<_, _≤_};
 ghost use lib.IntN.{pos, natAbs, _+ℤ_, _*ℤ_};
 ghost use lib.Signed.{shrZ};
 ghost use Rattle.integers.specs.Sums.{clipped};
-ghost use Rattle.vertical_u16.specs.Column.{natural};
 
 fn wide32(x: i32) -> i64
     ensures { λ r. ⌜ r ≡ x ⌝ }
@@ -12,10 +12,10 @@ fn wide32(x: i32) -> i64
     x as i64
 }
 
-fn wide16(x: u16) -> i64
-    ensures { λ r. ⌜ r ≡ pos x ⌝ }
+fn wide16(s: u16) -> i64
+    ensures { λ r. ⌜ r ≡ pos s ⌝ }
 {
-    x as i64
+    s as i64
 }
 
 // One weight times one sample, added; for a sum up to 2^62 in size.
@@ -34,21 +34,6 @@ pub(crate) fn half(p: u32) -> i64
     1i64 << (p - 1)
 }
 
-// q, or 0 where q is below 0.
-fn least(q: i64) -> i64
-    ensures { λ r. ⌜ r ≡ pos (natural q) ⌝ }
-{
-    if q < 0 { 0 } else { q }
-}
-
-// q, or 65535 where q is above it, for q from 0 on.
-fn most(q: i64) -> u16
-    requires { ⌜ q ≡ pos (natural q) ⌝ }
-    ensures { λ r. ⌜ r ≡ clipped 65535 q ⌝ }
-{
-    if q > 65535 { 65535 } else { q as u16 }
-}
-
 // v divided by 2^p, rounding down: the shift copies the sign, so a negative sum does not round toward zero.
 fn shift(v: i64, p: u32) -> i64
     requires { ⌜ p < 64 ⌝ }
@@ -62,5 +47,5 @@ pub(crate) fn clip(v: i64, p: u32) -> u16
     requires { ⌜ p < 64 ⌝ }
     ensures { λ r. ⌜ r ≡ clipped 65535 (shrZ v (2 ^ p)) ⌝ }
 {
-    most(least(shift(v, p)))
+    clip16(shift(v, p))
 }

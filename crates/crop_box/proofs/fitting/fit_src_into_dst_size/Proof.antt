@@ -1,11 +1,11 @@
--- `fit_src_into_dst_size` meets its contract. As for `crop`, the ladder of `fitOf` is rewritten by the tests that led to each return;
--- the last is the box that `ratio_box` gave. Assumes nothing.
-use borrow.Author.Needs.{needs}
-use Rattle.crop_box.proofs.fitting.fit_src_into_dst_size.Statement.{statement}
-use Rattle.crop_box.proofs.fitting.fit_src_into_dst_size.Tie as tie
+-- `fit_src_into_dst_size` meets its contract: the ladder of `fitOf` is rewritten by the tests that led to each return and by the case of the centring; the box is
+-- the one that `fitted` gave. Assumes nothing.
 use mathlib.Core.Path.{_∙_, sym, ap}
 use Rattle.crop_box.specs.Fit.{fitOf}
 use Rattle.crop_box.specs.declared.Fitted.the-variants.{Fit}
+use borrow.Author.Needs.{needs}
+use Rattle.crop_box.proofs.fitting.fit_src_into_dst_size.Statement.{statement}
+use Rattle.crop_box.proofs.fitting.fit_src_into_dst_size.Tie as tie
 
 large-sides-requires : tie.Need-large-sides-requires
 large-sides-requires c κs = search needs
@@ -14,66 +14,66 @@ returns : tie.Need-returns
 unfolding fitOf
 returns c = rw (sym (c .before .large-sides .ensures) ∙ c .if1 .taken)
 
-bad-centring-requires : tie.Need-bad-centring-requires
-bad-centring-requires c κs = search needs
+enum-told : tie.Need-enum-told
+enum-told c = search needs
+
+fitted-requires : tie.Need-fitted-requires
+fitted-requires c κs = search needs
+
+enum-known-centring : tie.Need-enum-known-centring
+enum-known-centring c = search needs
+
+finite-requires : tie.Need-finite-requires
+finite-requires c κs = search needs
+
+finite-requires-2 : tie.Need-finite-requires-2
+finite-requires-2 c κs = search needs
 
 returns-2 : tie.Need-returns-2
 unfolding fitOf
 returns-2 c =
-    let one = c .before .before in
-    rw (sym (one .before .large-sides .ensures) ∙ one .if1 .left, sym (c .before .bad-centring .ensures) ∙ c .if2 .taken)
+    let second = c .before in
+    let first = second .before in
+    let at = first .before .before in
+    let one = at .before .before in
+    let bad = rw (first .finite .ensures, second .finite2 .ensures) at (c .if2 .taken) in
+    rw (sym (one .before .large-sides .ensures) ∙ one .if1 .left, at .centring .given .1, bad)
 
-int-to-float-width : tie.Need-int-to-float-width
-int-to-float-width c = search needs
+clamp01-requires : tie.Need-clamp01-requires
+clamp01-requires c κs = search needs
 
-int-to-float-height : tie.Need-int-to-float-height
-int-to-float-height c = search needs
+clamp01-requires-2 : tie.Need-clamp01-requires-2
+clamp01-requires-2 c κs = search needs
 
-zero-side-requires : tie.Need-zero-side-requires
-zero-side-requires c κs = search needs
+fitted-requires-2 : tie.Need-fitted-requires-2
+fitted-requires-2 c κs = search needs
 
 returns-3 : tie.Need-returns-3
 unfolding fitOf
 returns-3 c =
-    let two = c .before .before .before .before in
-    let one = two .before .before in
-    rw (
-      sym (one .before .large-sides .ensures) ∙ one .if1 .left,
-      sym (two .before .bad-centring .ensures) ∙ two .if2 .left,
-      sym (c .before .zero-side .ensures) ∙ c .if3 .taken,
-    )
-
-int-to-float-required : tie.Need-int-to-float-required
-int-to-float-required c = search needs
-
-int-to-float-required-2 : tie.Need-int-to-float-required-2
-int-to-float-required-2 c = search needs
-
-centre-across-requires : tie.Need-centre-across-requires
-centre-across-requires c κs = search needs
-
-centre-down-requires : tie.Need-centre-down-requires
-centre-down-requires c κs = search needs
-
-ratio-box-requires : tie.Need-ratio-box-requires
-ratio-box-requires c κs = search needs
+    let told = c .before in
+    let one = told .before .before in
+    rw (sym (one .before .large-sides .ensures) ∙ one .if1 .left, told .enum-told .given .1) (ap Fit (c .fitted .ensures))
 
 returns-4 : tie.Need-returns-4
 unfolding fitOf
 returns-4 c =
     let down = c .before in
     let across = down .before in
-    let three = across .before .before .before in
-    let two = three .before .before .before .before in
-    let one = two .before .before in
+    let two = across .before in
+    let second = two .before in
+    let first = second .before in
+    let at = first .before .before in
+    let one = at .before .before in
+    let good = rw (first .finite .ensures, second .finite2 .ensures) at (two .if2 .left) in
     rw (
       sym (one .before .large-sides .ensures) ∙ one .if1 .left,
-      sym (two .before .bad-centring .ensures) ∙ two .if2 .left,
-      sym (three .before .zero-side .ensures) ∙ three .if3 .left,
-      ← down .centre-down .ensures,
-      ← across .centre-across .ensures,
+      at .centring .given .1,
+      good,
+      ← down .clamp012 .ensures,
+      ← across .clamp01 .ensures,
     )
-    (ap Fit (c .ratio-box .ensures))
+    (ap Fit (c .fitted2 .ensures))
 
 pub fit-src-into-dst-size-spec : {M : Type 1} → statement M
 fit-src-into-dst-size-spec =
@@ -81,15 +81,14 @@ fit-src-into-dst-size-spec =
     (tie.spec
     large-sides-requires
     returns
-    bad-centring-requires
+    enum-told
+    fitted-requires
+    enum-known-centring
+    finite-requires
+    finite-requires-2
     returns-2
-    int-to-float-width
-    int-to-float-height
-    zero-side-requires
+    clamp01-requires
+    clamp01-requires-2
+    fitted-requires-2
     returns-3
-    int-to-float-required
-    int-to-float-required-2
-    centre-across-requires
-    centre-down-requires
-    ratio-box-requires
     returns-4)

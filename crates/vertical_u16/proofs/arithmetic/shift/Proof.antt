@@ -1,6 +1,6 @@
 -- The shift of a signed number is `shrZ`, which rounds down. Assumes nothing.
 use borrow.Author.Needs.{needs}
-use Rattle.vertical_u16.proofs.Clips.{back-shift}
+use Rattle.vertical_u16.proofs.ReadBack.{back-shift}
 use Rattle.vertical_u16.proofs.arithmetic.shift.Statement.{statement}
 use Rattle.vertical_u16.proofs.arithmetic.shift.Tie as tie
 

@@ -10,7 +10,7 @@ cast-result : tie.Need-cast-result
 cast-result c = search needs
 
 returns : tie.Need-returns
-returns c = toZ-pos w64 (c .args .x) (omega arith)
+returns c = toZ-pos w64 (c .args .s) (omega arith)
 
 pub wide16-spec : {M : Type 1} → statement M
 wide16-spec = tie.close (tie.spec cast-result returns)

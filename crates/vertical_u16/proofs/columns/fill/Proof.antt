@@ -8,7 +8,7 @@ use Rattle.integers.proofs.Floors.{shifted-from}
 use Rattle.integers.specs.Sums.{clipped}
 use Rattle.lists.proofs.StoreLaws.{chunk}
 use Rattle.vertical_u16.specs.Column.{columnValue}
-use Rattle.vertical_u16.proofs.Clips.{back}
+use Rattle.vertical_u16.proofs.ReadBack.{back}
 use Rattle.vertical_u16.proofs.Sizes.{half-size}
 use Rattle.vertical_u16.proofs.columns.fill.Statement.{statement}
 use Rattle.vertical_u16.proofs.columns.fill.Tie as tie

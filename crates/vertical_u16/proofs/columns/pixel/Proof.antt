@@ -3,7 +3,7 @@ use mathlib.Core.Path.{_∙_, ap}
 use borrow.Author.Needs.{needs}
 use Rattle.integers.proofs.Floors.{shifted-from}
 use Rattle.integers.specs.Sums.{clipped}
-use Rattle.vertical_u16.proofs.Clips.{back}
+use Rattle.vertical_u16.proofs.ReadBack.{back}
 use Rattle.vertical_u16.proofs.Sizes.{half-size}
 use Rattle.vertical_u16.proofs.columns.pixel.Statement.{statement}
 use Rattle.vertical_u16.proofs.columns.pixel.Tie as tie

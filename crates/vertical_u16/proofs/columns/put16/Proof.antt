@@ -8,7 +8,7 @@ use lib.ListN.{length, getD, length-set}
 use lib.Signed.{shrZ}
 use Rattle.integers.specs.Sums.{clipped}
 use Rattle.lists.proofs.StoreLaws.{set-shift, set-low}
-use Rattle.vertical_u16.proofs.Clips.{back}
+use Rattle.vertical_u16.proofs.ReadBack.{back}
 use Rattle.vertical_u16.proofs.columns.put16.Statement.{statement}
 use Rattle.vertical_u16.proofs.columns.put16.Tie as tie
 

@@ -9,7 +9,7 @@ use mir.Facts.{toZ-ofZ}
 use mir.Syntax.{w32}
 use mir.Val.{toZ, ofZ}
 use Rattle.lists.proofs.StoreLaws.{set-below, set-above}
-use Rattle.vertical_u16.proofs.Clips.{back}
+use Rattle.vertical_u16.proofs.ReadBack.{back}
 use Rattle.vertical_u16.proofs.sums.add16.Statement.{statement}
 use Rattle.vertical_u16.proofs.sums.add16.Tie as tie
 

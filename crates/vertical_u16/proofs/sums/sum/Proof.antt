@@ -10,7 +10,7 @@ use mir.Syntax.{w32, w64}
 use mir.Val.{toZ, ofZ}
 use Rattle.lists.proofs.TabLaws.{row-next}
 use Rattle.vertical_u16.specs.Column.{columnSum}
-use Rattle.vertical_u16.proofs.Clips.{back}
+use Rattle.vertical_u16.proofs.ReadBack.{back}
 use Rattle.vertical_u16.proofs.Sizes.{turn-size, sum-none, turn}
 use Rattle.vertical_u16.proofs.sums.sum.Statement.{statement}
 use Rattle.vertical_u16.proofs.sums.sum.Tie as tie

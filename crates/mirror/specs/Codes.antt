@@ -1,0 +1,71 @@
+-- Codes of the C interface: what each names, and the answers where a code may name nothing. No. 100 exists here only; it is judged first, and the numbers
+-- beside it are 0. Cited by the contracts of `mirror`. Definitions only. Assumes nothing.
+use mathlib.Core.Bool.{Bool, cond, _||_}
+use Prim.Native.Nat.{ℕ}
+use lib.Dec.{ltb, eqb}
+use lib.Ieee.{Float}
+use Rattle.floats.specs.Doubles.{zero64}
+use Rattle.filters.specs.declared.FilterType.{FilterType}
+use Rattle.filters.specs.declared.FilterType.the-variants.{Box, Bilinear, CatmullRom, Mitchell}
+use Rattle.filters.specs.Filters.{valueOf}
+use Rattle.crop_box.specs.declared.CropBox.{CropBox}
+use Rattle.crop_box.specs.declared.Centring.{Centring}
+use Rattle.crop_box.specs.declared.Centring.the-variants.{Absent, At}
+use Rattle.crop_box.specs.Fit.{fitOf, boxOf, numberOf as numberOfFitted}
+use Rattle.coefficients.specs.declared.Axis.{Axis}
+use Rattle.coefficients.specs.declared.Request.{Request}
+use Rattle.coefficients.specs.declared.Axis.the-variants.{Across, Down}
+
+-- a code that names nothing
+abbrev pub badCode : ℕ
+badCode = 100
+
+abbrev pub noFilter : ℕ → Bool
+noFilter code = ltb 3 code
+
+-- an axis or a flag
+abbrev pub noFlag : ℕ → Bool
+noFlag code = ltb 1 code
+
+abbrev pub filterOf : ℕ → FilterType
+filterOf code = cond (eqb code 0) Box (cond (eqb code 1) Bilinear (cond (eqb code 2) CatmullRom Mitchell))
+
+abbrev pub axisOf : ℕ → Axis
+axisOf code = cond (eqb code 0) Across Down
+
+-- centring absent, or the two numbers
+abbrev pub centringOf : ℕ → Float → Float → Centring
+centringOf code across down = cond (eqb code 0) Absent (At across down)
+
+-- one filter's weight
+unfoldable pub filterNumber : ℕ → ℕ
+filterNumber filter = cond (noFilter filter) badCode 0
+
+unfoldable pub filterWeight : ℕ → Float → Float
+filterWeight filter x = cond (noFilter filter) zero64 (valueOf (filterOf filter) x)
+
+-- the fitting
+unfoldable pub fitNumber : ℕ → ℕ → ℕ → ℕ → ℕ → Float → Float → ℕ
+fitNumber sw sh dw dh centred cx cy = cond (noFlag centred) badCode (numberOfFitted (fitOf sw sh dw dh (centringOf centred cx cy)))
+
+abbrev pub noBox : CropBox
+noBox = record { left = zero64; top = zero64; width = zero64; height = zero64 }
+
+unfoldable pub fitBox : ℕ → ℕ → ℕ → ℕ → ℕ → Float → Float → CropBox
+fitBox sw sh dw dh centred cx cy = cond (noFlag centred) noBox (boxOf (fitOf sw sh dw dh (centringOf centred cx cy)))
+
+-- the weight builder: one of its three codes names nothing
+abbrev pub noCodes : ℕ → ℕ → ℕ → Bool
+noCodes axis filter adapts = (noFlag axis || noFilter filter) || noFlag adapts
+
+-- the request that numbers and codes make
+abbrev pub requestOf : ℕ → ℕ → Float → Float → Float → Float → ℕ → ℕ → ℕ → ℕ → Request
+requestOf w h left top width height axis output filter adapts = record {
+  width = w;
+  height = h;
+  crop = record { left = left; top = top; width = width; height = height };
+  axis = axisOf axis;
+  output = output;
+  filter = filterOf filter;
+  adapts = eqb adapts 1;
+}

@@ -1,0 +1,72 @@
+// The two vertical passes.
+ghost use mathlib.Core.Path.{_≡_};
+ghost use lib.ListN.{length};
+ghost use Rattle.windows.specs.Set.{setOf};
+ghost use Rattle.vertical.specs.Passed.{numberOf};
+ghost use Rattle.vertical.specs.F32.{passed32, written32};
+ghost use Rattle.vertical.specs.U16.{passed16, written16};
+use crate::answers::pass_number;
+
+// The value of every window at every column of the range, u16 samples: 0, No. 1 or No. 10.
+#[no_mangle]
+pub extern "C" fn mirror_vertical_u16(
+    src: &[u16],
+    lines: u32,
+    row: u32,
+    first: u32,
+    count: u32,
+    weights: &[i32],
+    starts: &[u32],
+    sizes: &[u32],
+    window: u32,
+    precision: u32,
+    out: &mut [u16],
+) -> u32
+    ensures answer { λ r. ⌜ r ≡ numberOf (passed16 (setOf lines window (now (weights .entry)) (now (starts .entry)) (now (sizes .entry)) precision) (now (src .entry)) row first count (length (now (out .entry)))) ⌝ }
+    ensures written { λ _. ⌜ now (out .exit) ≡ written16 (setOf lines window (now (weights .entry)) (now (starts .entry)) (now (sizes .entry)) precision) (now (src .entry)) row first count (now (out .entry)) ⌝ }
+{
+    pass_number(vertical_u16::vert_convolution_u16(
+        src,
+        lines,
+        row,
+        first,
+        count,
+        weights,
+        starts,
+        sizes,
+        window,
+        precision,
+        out,
+    ))
+}
+
+// The same of f32 samples, with weights as doubles: 0, No. 1, 10 or 12.
+#[no_mangle]
+pub extern "C" fn mirror_vertical_f32(
+    src: &[f32],
+    lines: u32,
+    row: u32,
+    first: u32,
+    count: u32,
+    weights: &[f64],
+    starts: &[u32],
+    sizes: &[u32],
+    window: u32,
+    out: &mut [f32],
+) -> u32
+    ensures answer { λ r. ⌜ r ≡ numberOf (passed32 (setOf lines window (now (weights .entry)) (now (starts .entry)) (now (sizes .entry)) 0) (now (src .entry)) row first count (length (now (out .entry)))) ⌝ }
+    ensures written { λ _. ⌜ now (out .exit) ≡ written32 (setOf lines window (now (weights .entry)) (now (starts .entry)) (now (sizes .entry)) 0) (now (src .entry)) row first count (now (out .entry)) ⌝ }
+{
+    pass_number(vertical_f32::vert_convolution_f32(
+        src,
+        lines,
+        row,
+        first,
+        count,
+        weights,
+        starts,
+        sizes,
+        window,
+        out,
+    ))
+}

@@ -1,0 +1,47 @@
+// The two normalisers: the weights of a set as integers in `out`, their precision in `precision`.
+ghost use mathlib.Core.Path.{_≡_};
+ghost use lib.ListN.{length};
+ghost use Rattle.windows.specs.Set.{setOf};
+ghost use Rattle.normalizer.specs.Answer.{normalizedOf, writtenOf, numberOf, precisionIn};
+use crate::answers::normalized_number;
+use crate::answers::normalized_precision;
+
+// In the 16-bit store: 0, No. 1, 7, 9 or 10.
+#[no_mangle]
+pub extern "C" fn mirror_normalize16(
+    lines: u32,
+    window: u32,
+    weights: &[f64],
+    starts: &[u32],
+    sizes: &[u32],
+    out: &mut [i16],
+    precision: &mut u32,
+) -> u32
+    ensures answer { λ r. ⌜ r ≡ numberOf (normalizedOf 22 15 (setOf lines window (now (weights .entry)) (now (starts .entry)) (now (sizes .entry)) 0) (length (now (out .entry)))) ⌝ }
+    ensures written { λ _. ⌜ now (out .exit) ≡ writtenOf 22 15 (setOf lines window (now (weights .entry)) (now (starts .entry)) (now (sizes .entry)) 0) (now (out .entry)) ⌝ }
+    ensures written2 { λ _. ⌜ now (precision .exit) ≡ precisionIn (normalizedOf 22 15 (setOf lines window (now (weights .entry)) (now (starts .entry)) (now (sizes .entry)) 0) (length (now (out .entry)))) ⌝ }
+{
+    let answer = normalizer::normalize16(lines, window, weights, starts, sizes, out);
+    *precision = normalized_precision(answer);
+    normalized_number(answer)
+}
+
+// In the 32-bit store.
+#[no_mangle]
+pub extern "C" fn mirror_normalize32(
+    lines: u32,
+    window: u32,
+    weights: &[f64],
+    starts: &[u32],
+    sizes: &[u32],
+    out: &mut [i32],
+    precision: &mut u32,
+) -> u32
+    ensures answer { λ r. ⌜ r ≡ numberOf (normalizedOf 46 31 (setOf lines window (now (weights .entry)) (now (starts .entry)) (now (sizes .entry)) 0) (length (now (out .entry)))) ⌝ }
+    ensures written { λ _. ⌜ now (out .exit) ≡ writtenOf 46 31 (setOf lines window (now (weights .entry)) (now (starts .entry)) (now (sizes .entry)) 0) (now (out .entry)) ⌝ }
+    ensures written2 { λ _. ⌜ now (precision .exit) ≡ precisionIn (normalizedOf 46 31 (setOf lines window (now (weights .entry)) (now (starts .entry)) (now (sizes .entry)) 0) (length (now (out .entry)))) ⌝ }
+{
+    let answer = normalizer::normalize32(lines, window, weights, starts, sizes, out);
+    *precision = normalized_precision(answer);
+    normalized_number(answer)
+}
