@@ -1,13 +1,12 @@
 // The requests `filter`, `crop` and `fit`, answered by `filters` and `crop_box`.
 mod fitting;
 
+use ask_kinds::Boxed;
+use ask_kinds::Kind;
 use asking::Words;
 use asking::fields;
 use asking::fields::Double;
 use asking::fields::Whole;
-use asking::kinds;
-use asking::kinds::Boxed;
-use asking::kinds::Kind;
 use crop_box::Cropped;
 use telling::emit;
 
@@ -34,7 +33,7 @@ fn filter(line: &[u8], w: Words, n: usize, out: &mut [u8]) -> usize {
     if w.count != 3 {
         return emit::bad(n, out);
     }
-    let kind_read = kinds::kind_at(line, w, 1);
+    let kind_read = ask_kinds::kind_at(line, w, 1);
     let Kind::Is(kind) = kind_read else {
         return emit::bad(n, out);
     };
@@ -58,7 +57,7 @@ fn crop(line: &[u8], w: Words, n: usize, out: &mut [u8]) -> usize {
     let Whole::Is(height) = height_read else {
         return emit::bad(n, out);
     };
-    let box_read = kinds::box_at(line, w, 3);
+    let box_read = ask_kinds::box_at(line, w, 3);
     let Boxed::Is(b) = box_read else {
         return emit::bad(n, out);
     };

@@ -1,9 +1,8 @@
 // The numbers of a sheet: KIND LINES WINDOW STORE PRECISION, words 1 to 5, without the store.
+use ask_kinds::Kind;
 use asking::Words;
 use asking::fields;
 use asking::fields::Whole;
-use asking::kinds;
-use asking::kinds::Kind;
 use filters::FilterType;
 
 pub(crate) struct Set {
@@ -19,7 +18,7 @@ pub(crate) enum Described {
 }
 
 pub(crate) fn set_of(line: &[u8], w: Words) -> Described {
-    let kind_read = kinds::kind_at(line, w, 1);
+    let kind_read = ask_kinds::kind_at(line, w, 1);
     let Kind::Is(kind) = kind_read else {
         return Described::Bad;
     };

@@ -1,10 +1,9 @@
 // What `build` asks for: words 1 to 10.
+use ask_kinds::Boxed;
+use ask_kinds::Kind;
 use asking::Words;
 use asking::fields;
 use asking::fields::Whole;
-use asking::kinds;
-use asking::kinds::Boxed;
-use asking::kinds::Kind;
 use coefficients::Axis;
 use coefficients::Request;
 
@@ -37,7 +36,7 @@ fn axis_of(down: bool) -> Axis {
 }
 
 pub(crate) fn request_of(line: &[u8], w: Words) -> Asked {
-    let kind_read = kinds::kind_at(line, w, 1);
+    let kind_read = ask_kinds::kind_at(line, w, 1);
     let Kind::Is(kind) = kind_read else {
         return Asked::Bad;
     };
@@ -61,7 +60,7 @@ pub(crate) fn request_of(line: &[u8], w: Words) -> Asked {
     let Whole::Is(output) = output_read else {
         return Asked::Bad;
     };
-    let box_read = kinds::box_at(line, w, 7);
+    let box_read = ask_kinds::box_at(line, w, 7);
     let Boxed::Is(crop) = box_read else {
         return Asked::Bad;
     };

@@ -1,4 +1,4 @@
-// Requests as text (docs/PROTOCOL.md): `split` cuts a line into its words, `fields` and `kinds` read a word, and a module for each
+// Requests as text (docs/PROTOCOL.md): `split` cuts a line into its words, `fields` reads a word, and a module for each
 // element type (`u8s` .. `f64s`) reads a list or fills one that is lent. No contract says what is read: none could speak of a text
 // in general terms that is shorter than the code. Every function is safe at every argument, because it tests what it is given.
 mod convert;
@@ -8,7 +8,6 @@ pub mod f64s;
 pub mod fields;
 pub mod i16s;
 pub mod i32s;
-pub mod kinds;
 mod signed;
 pub mod u16s;
 pub mod u32s;

@@ -1,7 +1,7 @@
-// The fields of a request that are the port's own: a filter's kind and a crop box; Bad where one is malformed.
-use crate::fields;
-use crate::fields::Double;
-use crate::words::Words;
+// The fields of a request that are the port's own: `kind_at`, a filter's kind, and `box_at`, a crop box; Bad where one is malformed.
+use asking::Words;
+use asking::fields;
+use asking::fields::Double;
 use crop_box::CropBox;
 use filters::FilterType;
 
