@@ -40,6 +40,10 @@ use Rattle.mirror.proofs.pixels.mirror_divide_u8x4.Kinds as divide-u8x4
 use Rattle.mirror.proofs.pixels.mirror_divide_u8x4.Reads as divide-u8x4-reads
 use Rattle.mirror.proofs.pixels.mirror_divide_u8x4_inplace.Kinds as divide-u8x4-inplace
 use Rattle.mirror.proofs.pixels.mirror_divide_u8x4_inplace.Reads as divide-u8x4-inplace-reads
+use Rattle.mirror.proofs.sheets.mirror_sheet16.Kinds as sheet16
+use Rattle.mirror.proofs.sheets.mirror_sheet16.Reads as sheet16-reads
+use Rattle.mirror.proofs.sheets.mirror_sheet32.Kinds as sheet32
+use Rattle.mirror.proofs.sheets.mirror_sheet32.Reads as sheet32-reads
 
 pub mirror-abs-decides : DecidesResult abs.ps abs.r abs-reads.Post
 mirror-abs-decides κs a x y s t p q = p ∙ sym q
@@ -97,3 +101,9 @@ mirror-divide-u8x4-decides κs a x y s t p q = (p .0 ∙ sym (q .0), p .1 ∙ sy
 
 pub mirror-divide-u8x4-inplace-decides : Decides divide-u8x4-inplace.ps divide-u8x4-inplace.r divide-u8x4-inplace-reads.Post (λ κs s t. now (s .0) ≡ now (t .0))
 mirror-divide-u8x4-inplace-decides κs a x y s t p q = (p .0 ∙ sym (q .0), p .1 ∙ sym (q .1))
+
+pub mirror-sheet16-decides : Decides sheet16.ps sheet16.r sheet16-reads.Post (λ κs s t. (now (s .1 .1 .1 .1 .1 .1 .1 .0) ≡ now (t .1 .1 .1 .1 .1 .1 .1 .0)) × (now (s .1 .1 .1 .1 .1 .1 .1 .1 .0) ≡ now (t .1 .1 .1 .1 .1 .1 .1 .1 .0)))
+mirror-sheet16-decides κs a x y s t p q = (p .0 ∙ sym (q .0), (p .1 .0 ∙ sym (q .1 .0), p .1 .1 ∙ sym (q .1 .1)))
+
+pub mirror-sheet32-decides : Decides sheet32.ps sheet32.r sheet32-reads.Post (λ κs s t. (now (s .1 .1 .1 .1 .1 .1 .1 .0) ≡ now (t .1 .1 .1 .1 .1 .1 .1 .0)) × (now (s .1 .1 .1 .1 .1 .1 .1 .1 .0) ≡ now (t .1 .1 .1 .1 .1 .1 .1 .1 .0)))
+mirror-sheet32-decides κs a x y s t p q = (p .0 ∙ sym (q .0), (p .1 .0 ∙ sym (q .1 .0), p .1 .1 ∙ sym (q .1 .1)))

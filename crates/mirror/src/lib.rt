@@ -7,4 +7,5 @@ mod helpers;
 mod passes;
 mod pixels;
 mod sets;
+mod sheets;
 mod stores;

@@ -1,0 +1,4 @@
+pub mod DigitLaws
+pub mod EdgeLaws
+pub mod Examples
+pub mod Sure

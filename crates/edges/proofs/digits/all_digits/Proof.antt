@@ -1,0 +1,77 @@
+-- After k turns none of the first k bytes is alien; the first that is decides the answer. Assumes nothing.
+use borrow.Author.Tests.{le-leb, lt-leb}
+use borrow.Author.Needs.{needs}
+use Prim.Native.Nat.{_-_, _≤_}
+use mathlib.Core.Path.{_≡_, refl, sym, ap}
+use mathlib.Core.Bool.{false, not}
+use native.Mathlib.Omega.{arith}
+use Rattle.lists.specs.Tab.{any}
+use Rattle.lists.proofs.AnyLaws.{any-on}
+use Rattle.edges.specs.Digits.{alien, digits}
+use Rattle.edges.proofs.DigitLaws.{any-some}
+use Rattle.edges.proofs.digits.all_digits.Statement.{statement}
+use Rattle.edges.proofs.digits.all_digits.Tie as tie
+
+abbrev Inv-loop : tie.InvT-loop
+Inv-loop base text a n k₀ k = (k ≤ n) × (any k (alien base text a) ≡ false)
+
+abbrev μ-loop : tie.MeasureT-loop
+μ-loop base text a n k₀ k = n - k
+
+loop-holds : tie.Need-loop-holds Inv-loop μ-loop
+loop-holds c = (omega arith, refl)
+
+add-digit : tie.Need-add-digit Inv-loop μ-loop
+add-digit c = search needs
+
+shared-slice-read-digit : tie.Need-shared-slice-read-digit Inv-loop μ-loop
+shared-slice-read-digit c = search needs
+
+digit-requires : tie.Need-digit-requires Inv-loop μ-loop
+digit-requires c κs = search needs
+
+cast-if1 : tie.Need-cast-if1 Inv-loop μ-loop
+cast-if1 c = search needs
+
+returns : tie.Need-returns Inv-loop μ-loop
+unfolding digits
+returns c =
+    let b = c .before .before .before .before in
+    let a = c .before .before .before .before .before .before .args in
+    ap not (sym (any-some (alien (a .base) (a .text .now) (a .a)) (a .n) (b .loop .k) (search needs) (rw (sym (c .before .digit .ensures)) (le-leb _ _ (c .if1 .taken)))))
+
+add-k : tie.Need-add-k Inv-loop μ-loop
+add-k c = search needs
+
+loop-less : tie.Need-loop-less Inv-loop μ-loop
+loop-less c = search needs
+
+loop-again : tie.Need-loop-again Inv-loop μ-loop
+loop-again c =
+    let b = c .before .before .before .before in
+    let a = c .before .before .before .before .before .before .args in
+    (search needs, any-on (alien (a .base) (a .text .now) (a .a)) (b .loop .k) (b .loop .inv .1) (rw (sym (c .before .digit .ensures)) (lt-leb _ _ (c .if1 .left))))
+
+returns-2 : tie.Need-returns-2 Inv-loop μ-loop
+unfolding digits
+returns-2 c =
+    let a = c .before .before .before .args in
+    let all : c .before .loop .k ≡ a .n = omega arith in
+    rw (← all, c .before .loop .inv .1)
+
+pub all-digits-spec : {M : Type 1} → statement M
+all-digits-spec =
+    tie.close
+    (tie.spec
+    Inv-loop
+    μ-loop
+    loop-holds
+    add-digit
+    shared-slice-read-digit
+    digit-requires
+    cast-if1
+    returns
+    add-k
+    loop-less
+    loop-again
+    returns-2)

@@ -1,0 +1,4 @@
+// Prints the weight sheet that its arguments ask for (docs/SHEET.md).
+fn main() {
+    printing::run();
+}

@@ -1,0 +1,117 @@
+/* The C interface of the proved library: target/staticlib/libmirror.a, built by `rt staticlib mirror`.
+ *
+ * Every function takes any numbers and any lists, answers, and writes only what the table below allows. Nothing is allocated or kept
+ * between calls. A list is a pointer and a count of elements; of an empty list the pointer is not followed, but must not be null.
+ * What one call may write overlaps nothing else that is handed to it. The functions are those of crates/mirror, each proved against a
+ * contract that decides every answer; docs/CONTRACTS.md has it in a sentence.
+ *
+ * Numbers beside the answer (weight, left, top, width, height, window, line, precision, written) are always written, and are 0 on every
+ * refusal, but for the line of No. 8.
+ */
+#ifndef MIRROR_H
+#define MIRROR_H
+
+#include <stddef.h>
+#include <stdint.h>
+
+#ifdef __cplusplus
+extern "C" {
+#endif
+
+/* The answers: document 01's numbers, each given exactly when its line says. Where several hold, the smallest is given, save that a
+ * normaliser judges 10 before 9. On a refusal other than No. 8 every lent list is unchanged. */
+enum {
+    MIRROR_DONE = 0,             /* done; slots past those asked for are unchanged */
+    MIRROR_BAD_SIDE = 1,         /* a side outside 1 to 8,192 (fitting: above 8,192), or a row length outside 1 to 32,768 */
+    MIRROR_NOT_FINITE = 2,       /* a crop or centring number is NaN or infinite */
+    MIRROR_NEGATIVE_EXTENT = 3,  /* crop width or height below 0 */
+    MIRROR_START_OUTSIDE = 4,    /* left or top below 0, or at or past the image side */
+    MIRROR_END_OUTSIDE = 5,      /* left + width, or top + height, past the image side */
+    MIRROR_NO_SCALE = 6,         /* scale is 0 or less */
+    MIRROR_TOO_FEW_SLOTS = 7,    /* fewer slots, starts or sizes lent than needed */
+    MIRROR_BLANK_WINDOW = 8,     /* a window has no weight other than 0, or its weight total is 0; the first such display line is given,
+                                    and the asked slots, starts and sizes are all 0 */
+    MIRROR_WEIGHT_OUTSIDE = 9,   /* a weight in any slot of the set is not finite, the precision found is below 4, or a rounded weight in
+                                    use leaves its integer type */
+    MIRROR_DOES_NOT_FIT = 10,    /* list lengths, a column range or a window do not fit (at each function) */
+    MIRROR_NO_ROOM = 11,         /* sheet room too small */
+    MIRROR_SAMPLE_OUTSIDE = 12,  /* f32 pass: a sample in use or weight in use not finite, or a weight above 2^64 in size */
+    MIRROR_BAD_CODE = 100        /* a filter above 3, an axis above 1 or a flag above 1; judged before anything else, nothing is written but
+                                    the zeros beside the answer. It exists at this interface only, where a choice has become a number. */
+};
+
+enum { MIRROR_BOX = 0, MIRROR_BILINEAR = 1, MIRROR_CATMULLROM = 2, MIRROR_MITCHELL = 3 };
+enum { MIRROR_HORIZONTAL = 0, MIRROR_VERTICAL = 1 }; /* the axis that is built: left and width, or top and height */
+
+/* Number helpers on bit patterns: binary64 in and out, but for the two casts. Infinity gives infinity, a zero keeps the argument's sign,
+ * a NaN gives the quiet one with sign and payload 0. The absolute value clears the sign bit and nothing else. */
+uint64_t mirror_abs(uint64_t x);
+uint64_t mirror_floor(uint64_t x);
+uint64_t mirror_ceil(uint64_t x);
+uint64_t mirror_round(uint64_t x);   /* half away from zero */
+uint64_t mirror_widen(uint32_t x);   /* binary32 to binary64 */
+uint32_t mirror_narrow(uint64_t x);  /* binary64 to binary32, ties to even, infinity where too large */
+
+/* One filter's weight at the distance x. 0, 100. The pattern of a NaN weight is not promised. */
+uint32_t mirror_filter(uint32_t filter, double x, double *weight);
+
+/* Whether a crop box lies in the image. 0 to 5. */
+uint32_t mirror_crop(uint32_t image_width, uint32_t image_height, double left, double top, double width, double height);
+
+/* The part of the source that has the display's ratio of sides. centred 0: centring is absent and means 0.5, 0.5, cx and cy are not
+ * looked at; 1: it is (cx, cy), clamped to 0..1. A zero side gives the whole source. 0, 1, 2, 100. */
+uint32_t mirror_fit(uint32_t src_width, uint32_t src_height, uint32_t dst_width, uint32_t dst_height,
+                    uint32_t centred, double cx, double cy,
+                    double *left, double *top, double *width, double *height);
+
+/* The weight set of one axis: for each display line the window's first camera line in starts, its size in sizes, and its weights in
+ * the line's `window` slots of weights. adapts 1: the kernel widens with the scale; 0: it does not. 0 to 8, 100. */
+uint32_t mirror_weights(uint32_t image_width, uint32_t image_height, double left, double top, double width, double height,
+                        uint32_t axis, uint32_t out_side, uint32_t filter, uint32_t adapts,
+                        double *weights, size_t weights_len, uint32_t *starts, size_t starts_len, uint32_t *sizes, size_t sizes_len,
+                        uint32_t *window, uint32_t *line);
+
+/* The weights of a set as integers of 2^-precision. lines: camera lines; starts_len: display lines. 0, 1, 7, 9, 10.
+ * No. 10: a window size outside 1 to 32,769; a window of size 0, larger than the window size or past the last line; weight slots not
+ * windows x window size; starts and sizes of different counts. No. 7: out_len below windows x window size. */
+uint32_t mirror_normalize16(uint32_t lines, uint32_t window,
+                            const double *weights, size_t weights_len, const uint32_t *starts, size_t starts_len,
+                            const uint32_t *sizes, size_t sizes_len, int16_t *out, size_t out_len, uint32_t *precision);
+uint32_t mirror_normalize32(uint32_t lines, uint32_t window,
+                            const double *weights, size_t weights_len, const uint32_t *starts, size_t starts_len,
+                            const uint32_t *sizes, size_t sizes_len, int32_t *out, size_t out_len, uint32_t *precision);
+
+/* A sum already shifted, clipped to 0..255. */
+uint8_t mirror_clip8(int32_t value);
+
+/* The vertical passes over columns first .. first + count - 1 of rows of `row` samples; out has count samples for each window. 0, 1, 10,
+ * and 12 for f32. No. 10: as for a normaliser; a source length that is not lines x row; first + count past the row; an output length that
+ * is not windows x count; a precision outside 4 to 45. */
+uint32_t mirror_vertical_u16(const uint16_t *src, size_t src_len, uint32_t lines, uint32_t row, uint32_t first, uint32_t count,
+                             const int32_t *weights, size_t weights_len, const uint32_t *starts, size_t starts_len,
+                             const uint32_t *sizes, size_t sizes_len, uint32_t window, uint32_t precision,
+                             uint16_t *out, size_t out_len);
+uint32_t mirror_vertical_f32(const float *src, size_t src_len, uint32_t lines, uint32_t row, uint32_t first, uint32_t count,
+                             const double *weights, size_t weights_len, const uint32_t *starts, size_t starts_len,
+                             const uint32_t *sizes, size_t sizes_len, uint32_t window,
+                             float *out, size_t out_len);
+
+/* Colours times or over alpha, pixels of four bytes, alpha last and kept. 0, 10: lengths not equal, or no multiple of 4. */
+uint32_t mirror_multiply_u8x4(const uint8_t *src, size_t src_len, uint8_t *dst, size_t dst_len);
+uint32_t mirror_multiply_u8x4_inplace(uint8_t *pixels, size_t len);
+uint32_t mirror_divide_u8x4(const uint8_t *src, size_t src_len, uint8_t *dst, size_t dst_len);
+uint32_t mirror_divide_u8x4_inplace(uint8_t *pixels, size_t len);
+
+/* The sheet of a set of the 16-bit or the 32-bit store, into text; written is its bytes. 0, 1, 10, 11, 100. No. 10: as for a normaliser,
+ * and a precision outside 4 to 21 or 4 to 45. */
+uint32_t mirror_sheet16(uint32_t filter, uint32_t lines, uint32_t window, uint32_t precision,
+                        const int16_t *weights, size_t weights_len, const uint32_t *starts, size_t starts_len,
+                        const uint32_t *sizes, size_t sizes_len, uint8_t *text, size_t text_len, uint64_t *written);
+uint32_t mirror_sheet32(uint32_t filter, uint32_t lines, uint32_t window, uint32_t precision,
+                        const int32_t *weights, size_t weights_len, const uint32_t *starts, size_t starts_len,
+                        const uint32_t *sizes, size_t sizes_len, uint8_t *text, size_t text_len, uint64_t *written);
+
+#ifdef __cplusplus
+}
+#endif
+#endif

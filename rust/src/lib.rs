@@ -1,0 +1,31 @@
+//! Safe calls of the proved library, `libmirror.a` (include/mirror.h). Every function takes any numbers and lists; what document 01
+//! refuses comes back as a [`Refusal`]. Nothing is allocated and nothing panics. `raw` is the C interface as it is.
+#![no_std]
+#![deny(unsafe_op_in_unsafe_fn)]
+
+mod alpha;
+mod crops;
+mod numbers;
+mod passes;
+pub mod raw;
+mod refusal;
+mod sets;
+mod sheets;
+
+pub use alpha::{divide_alpha, divide_alpha_inplace, multiply_alpha, multiply_alpha_inplace};
+pub use crops::{crop, fit, Centring, CropBox};
+pub use numbers::{abs, ceil, clip8, filter, floor, narrow, round, widen, Filter};
+pub use passes::{vertical_f32, vertical_u16, Frame};
+pub use refusal::Refusal;
+pub use sets::{normalize16, normalize32, weights, Axis, Request, Set};
+pub use sheets::{sheet16, sheet32};
+
+/// The number of a line of the camera's image, from 0.
+#[repr(transparent)]
+#[derive(Clone, Copy, Debug, Default, PartialEq, Eq, PartialOrd, Ord)]
+pub struct CameraLine(pub u32);
+
+/// The number of a line of the display, from 0. Neither numbering is ever used for the other.
+#[repr(transparent)]
+#[derive(Clone, Copy, Debug, Default, PartialEq, Eq, PartialOrd, Ord)]
+pub struct DisplayLine(pub u32);

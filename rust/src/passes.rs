@@ -1,0 +1,36 @@
+use crate::raw;
+use crate::refusal::{judged, Refusal};
+use crate::sets::Set;
+
+/// Camera lines of `row` samples one after the other, and the range of columns that is asked for.
+#[derive(Clone, Copy, Debug)]
+pub struct Frame<'a, S> {
+    pub samples: &'a [S],
+    pub row: u32,
+    pub first: u32,
+    pub count: u32,
+}
+
+/// The value of every window at every column of the range: `count` samples of `out` for each window.
+pub fn vertical_u16(frame: &Frame<u16>, set: &Set<i32>, precision: u32, out: &mut [u16]) -> Result<(), Refusal> {
+    let number = unsafe {
+        raw::mirror_vertical_u16(
+            frame.samples.as_ptr(), frame.samples.len(), set.lines, frame.row, frame.first, frame.count,
+            set.weights.as_ptr(), set.weights.len(), set.starts(), set.starts.len(),
+            set.sizes.as_ptr(), set.sizes.len(), set.window, precision, out.as_mut_ptr(), out.len(),
+        )
+    };
+    judged(number, 0)
+}
+
+/// The same of f32 samples, with weights as doubles.
+pub fn vertical_f32(frame: &Frame<f32>, set: &Set<f64>, out: &mut [f32]) -> Result<(), Refusal> {
+    let number = unsafe {
+        raw::mirror_vertical_f32(
+            frame.samples.as_ptr(), frame.samples.len(), set.lines, frame.row, frame.first, frame.count,
+            set.weights.as_ptr(), set.weights.len(), set.starts(), set.starts.len(),
+            set.sizes.as_ptr(), set.sizes.len(), set.window, out.as_mut_ptr(), out.len(),
+        )
+    };
+    judged(number, 0)
+}

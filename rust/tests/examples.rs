@@ -1,0 +1,141 @@
+//! Document 01's examples and refusals through the safe wrapper, and a number for every refusal.
+use mirror::*;
+
+const WHOLE: CropBox = CropBox { left: 0.0, top: 0.0, width: 4.0, height: 1.0 };
+const REQUEST: Request =
+    Request { image_width: 4, image_height: 1, crop: WHOLE, axis: Axis::Horizontal, out_side: 2, filter: Filter::Box, adapts: true };
+
+fn set<'a, W>(lines: u32, weights: &'a [W], sizes: &'a [u32]) -> Set<'a, W> {
+    Set { lines, window: weights.len() as u32, weights, starts: &[CameraLine(0)], sizes }
+}
+
+#[test]
+fn helpers_round_as_rows_13_and_14() {
+    assert_eq!([round(2.5), round(-2.5), round(-0.5)], [3.0, -3.0, -1.0]);
+    assert_eq!(narrow(1.0 + 2f64.powi(-24)), 1.0);
+    assert_eq!(narrow(1.0 + 3.0 * 2f64.powi(-24)), 1.0 + 2f32.powi(-22));
+    assert_eq!((floor(-0.5), ceil(0.5), abs(-2.0), widen(0.5)), (-1.0, 1.0, 2.0, 0.5));
+    assert_eq!(floor(f64::NAN).to_bits(), 0x7ff8_0000_0000_0000);
+    assert_eq!((clip8(-1), clip8(77), clip8(i32::MAX)), (0, 77, 255));
+    assert_eq!((filter(Filter::Box, -0.5), filter(Filter::Box, 0.5), filter(Filter::Bilinear, 0.25)), (0.0, 1.0, 0.75));
+}
+
+#[test]
+fn crop_gives_numbers_1_to_5() {
+    let of = |b: CropBox| crop(4, 1, b).map_err(Refusal::number);
+    assert_eq!(of(WHOLE), Ok(()));
+    assert_eq!(crop(0, 1, WHOLE), Err(Refusal::BadSide));
+    assert_eq!(of(CropBox { left: f64::NAN, ..WHOLE }), Err(2));
+    assert_eq!(of(CropBox { width: -1.0, ..WHOLE }), Err(3));
+    assert_eq!(of(CropBox { left: -1.0, ..WHOLE }), Err(4));
+    assert_eq!(of(CropBox { left: 1.0, ..WHOLE }), Err(5));
+}
+
+#[test]
+fn fit_centres_unless_told() {
+    assert_eq!(fit((200, 100), (100, 100), Centring::Absent), Ok(CropBox { left: 50.0, top: 0.0, width: 100.0, height: 100.0 }));
+    assert_eq!(fit((200, 100), (100, 100), Centring::At(0.0, 0.0)).map(|b| b.left), Ok(0.0));
+    assert_eq!(fit((8193, 1), (1, 1), Centring::Absent), Err(Refusal::BadSide));
+    assert_eq!(fit((0, 1), (1, 1), Centring::At(0.0, f64::INFINITY)), Err(Refusal::NotFinite));
+}
+
+#[test]
+fn the_sheets_set_is_built_and_its_spare_slots_kept() {
+    let (mut slots, mut starts, mut sizes) = ([7.0; 7], [CameraLine(7); 3], [7; 3]);
+    assert_eq!(weights(&REQUEST, &mut slots, &mut starts, &mut sizes), Ok(3));
+    assert_eq!(slots, [0.5, 0.5, 0.0, 0.5, 0.5, 0.0, 7.0]);
+    assert_eq!((starts, sizes), ([CameraLine(0), CameraLine(2), CameraLine(7)], [2, 2, 7]));
+    let built = Set { lines: 4, window: 3, weights: &slots[..6], starts: &starts[..2], sizes: &sizes[..2] };
+    let mut integers = [7; 6];
+    assert_eq!(normalize32(&built, &mut integers), Ok(31));
+    assert_eq!(integers, [1 << 30, 1 << 30, 0, 1 << 30, 1 << 30, 0]);
+}
+
+#[test]
+fn a_blank_window_names_its_display_line() {
+    let sliver = CropBox { left: 1.0 - 2f64.powi(-53), width: 2f64.powi(-53), ..WHOLE };
+    let request = Request { image_width: 1, crop: sliver, out_side: 1, ..REQUEST };
+    let (mut slots, mut starts, mut sizes) = ([7.0; 3], [CameraLine(7)], [7]);
+    assert_eq!(weights(&request, &mut slots, &mut starts, &mut sizes), Err(Refusal::BlankWindow(DisplayLine(0))));
+    assert_eq!((slots, starts, sizes), ([0.0; 3], [CameraLine(0)], [0]));
+    assert_eq!(weights(&Request { filter: Filter::Bilinear, ..request }, &mut slots, &mut starts, &mut sizes), Ok(3));
+}
+
+#[test]
+fn a_refused_request_writes_nothing() {
+    let refused = |request: Request| {
+        let (mut slots, mut starts, mut sizes) = ([7.0; 6], [CameraLine(7); 2], [7; 2]);
+        let answer = weights(&request, &mut slots, &mut starts, &mut sizes);
+        assert_eq!((slots, starts, sizes), ([7.0; 6], [CameraLine(7); 2], [7; 2]));
+        answer
+    };
+    assert_eq!(refused(Request { out_side: 0, ..REQUEST }), Err(Refusal::BadSide));
+    assert_eq!(refused(Request { out_side: 8193, ..REQUEST }), Err(Refusal::BadSide));
+    assert_eq!(refused(Request { out_side: 8192, ..REQUEST }), Err(Refusal::TooFewSlots));
+    assert_eq!(refused(Request { crop: CropBox { width: 0.0, ..WHOLE }, ..REQUEST }), Err(Refusal::NoScale));
+    assert_eq!(refused(Request { filter: Filter::Mitchell, axis: Axis::Vertical, ..REQUEST }), Err(Refusal::TooFewSlots));
+}
+
+#[test]
+fn normalisers_give_rows_7_to_9() {
+    let mut out = [7; 4];
+    assert_eq!(normalize16(&set(1, &[1.0], &[1]), &mut out), Ok(14));
+    assert_eq!(out, [16384, 7, 7, 7]);
+    assert_eq!(normalize16(&set(3, &[1.0 / 3.0; 3], &[3]), &mut out), Ok(16));
+    assert_eq!(out, [21845, 21845, 21845, 7]);
+    assert_eq!(normalize16(&set(1, &[f64::NAN], &[1]), &mut out), Err(Refusal::WeightOutside));
+    assert_eq!(normalize16(&set(1, &[1.0], &[1]), &mut []), Err(Refusal::TooFewSlots));
+    assert_eq!(normalize32(&set(1, &[1.0], &[2]), &mut [0]), Err(Refusal::DoesNotFit));
+}
+
+#[test]
+fn passes_give_rows_10_to_12() {
+    let column = |weights: &[i32], samples: &[u16]| {
+        let (lines, mut out) = (samples.len() as u32, [7]);
+        let frame = Frame { samples, row: 1, first: 0, count: 1 };
+        vertical_u16(&frame, &set(lines, weights, &[lines]), 4, &mut out).map(|()| out[0])
+    };
+    assert_eq!(column(&[-4, 24, -4], &[100, 200, 100]), Ok(250));
+    assert_eq!((column(&[-4, 24, -4], &[65535, 0, 65535]), column(&[-4, 24, -4], &[0, 65535, 0])), (Ok(0), Ok(65535)));
+    assert_eq!((column(&[8, 8], &[1, 0]), column(&[8, 8], &[0, 1]), column(&[8, 8], &[1, 1])), (Ok(1), Ok(1), Ok(1)));
+    assert_eq!(column(&[8], &[1, 1]), Err(Refusal::DoesNotFit));
+
+    let frame = |samples| Frame { samples, row: 2, first: 1, count: 1 };
+    let mut out = [7.0];
+    assert_eq!(vertical_f32(&frame(&[f32::NAN, 2.0, f32::NAN, 4.0]), &set(2, &[0.5, 0.5], &[2]), &mut out), Ok(()));
+    assert_eq!(out, [3.0]);
+    assert_eq!(vertical_f32(&frame(&[0.0, 2.0, 0.0, f32::NAN]), &set(2, &[0.5, 0.5], &[2]), &mut out), Err(Refusal::SampleOutside));
+    assert_eq!(out, [3.0]);
+}
+
+#[test]
+fn alpha_gives_rows_1_to_6() {
+    let with = |f: fn(&[u8], &mut [u8]) -> Result<(), Refusal>, colour, alpha| {
+        let mut out = [7; 4];
+        f(&[colour, 0, colour, alpha], &mut out).map(|()| out[0])
+    };
+    assert_eq!((with(multiply_alpha, 128, 128), with(multiply_alpha, 193, 253)), (Ok(64), Ok(191)));
+    assert_eq!((with(divide_alpha, 191, 253), with(multiply_alpha, 192, 253)), (Ok(192), Ok(190)));
+    assert_eq!((with(divide_alpha, 200, 0), with(divide_alpha, 200, 100), with(divide_alpha, 50, 100)), (Ok(0), Ok(255), Ok(128)));
+    let mut pixels = [193, 0, 0, 253];
+    assert_eq!((multiply_alpha_inplace(&mut pixels), pixels[0]), (Ok(()), 191));
+    assert_eq!((divide_alpha_inplace(&mut pixels), pixels[0]), (Ok(()), 192));
+    assert_eq!(multiply_alpha(&[0; 4], &mut [0; 8]), Err(Refusal::DoesNotFit));
+    assert_eq!((divide_alpha_inplace(&mut pixels[..3]), divide_alpha_inplace(&mut [])), (Err(Refusal::DoesNotFit), Ok(())));
+}
+
+#[test]
+fn the_sheet_is_document_01s() {
+    const SHEET: &[u8] = b"kind=box\nin=4\nout=2\nwindow=3\nstore=32\nprecision=31\nw0=0,2:1073741824,1073741824\nw1=2,2:1073741824,1073741824\n";
+    let half = 1 << 30;
+    let (weights, starts, sizes) = ([half, half, 0, half, half, 0], [CameraLine(0), CameraLine(2)], [2, 2]);
+    let set32 = Set { lines: 4, window: 3, weights: &weights, starts: &starts, sizes: &sizes };
+    let mut text = [7; SHEET.len() + 1];
+    assert_eq!(sheet32(Filter::Box, &set32, 31, &mut text[..SHEET.len() - 1]), Err(Refusal::NoRoom));
+    assert_eq!(text, [7; SHEET.len() + 1]);
+    assert_eq!(sheet32(Filter::Box, &set32, 31, &mut text), Ok(SHEET.len() as u64));
+    assert_eq!((&text[..SHEET.len()], text[SHEET.len()]), (SHEET, 7));
+    assert_eq!(sheet16(Filter::Mitchell, &set(1, &[-5], &[1]), 4, &mut text), Ok(65));
+    assert!(text.starts_with(b"kind=mitchell\nin=1\nout=1\nwindow=1\nstore=16\nprecision=4\nw0=0,1:-5\n"));
+    assert_eq!(sheet16(Filter::Box, &set(1, &[-5], &[1]), 22, &mut text), Err(Refusal::DoesNotFit));
+}

@@ -1,0 +1,102 @@
+/* Functions over frames: the two passes and alpha. */
+#include <math.h>
+
+#include "check.h"
+
+static const uint32_t nought[] = {0}, ones[] = {1}, twos[] = {2}, threes[] = {3};
+
+/* One column of a window with precision 4. */
+static int column16(const int32_t *weights, const uint32_t *size, const uint16_t *samples)
+{
+    LENT(uint16_t, out, 1);
+    uint32_t n = *size, no = mirror_vertical_u16(samples, n, n, 1, 0, 1, weights, n, nought, 1, size, 1, n, 4, LIST(out));
+    CHECK(no == MIRROR_DONE && KEPT_FROM(out, 1));
+    return out.at[0];
+}
+
+static void check_u16(void)
+{
+    static const int32_t sharp[] = {-4, 24, -4}, halves[] = {8, 8};
+    static const uint16_t edge[] = {100, 200, 100}, low[] = {65535, 0, 65535}, high[] = {0, 65535, 0}, left[] = {1, 0}, right[] = {0, 1}, both[] = {1, 1};
+    static const uint16_t frame[] = {1, 2, 3, 5, 6, 7};
+    /* rows 10, 11 and 12 */
+    CHECK(column16(sharp, threes, edge) == 250);
+    CHECK(column16(sharp, threes, low) == 0 && column16(sharp, threes, high) == 65535);
+    CHECK(column16(halves, twos, left) == 1 && column16(halves, twos, right) == 1 && column16(halves, twos, both) == 1);
+    /* a range of columns gives those columns of the whole */
+    LENT(uint16_t, whole, 3);
+    LENT(uint16_t, part, 2);
+    CHECK(mirror_vertical_u16(frame, 6, 2, 3, 0, 3, halves, 2, nought, 1, twos, 1, 2, 4, LIST(whole)) == MIRROR_DONE);
+    CHECK(mirror_vertical_u16(frame, 6, 2, 3, 1, 2, halves, 2, nought, 1, twos, 1, 2, 4, LIST(part)) == MIRROR_DONE);
+    CHECK(whole.at[0] == 3 && whole.at[1] == 4 && whole.at[2] == 5 && part.at[0] == 4 && part.at[1] == 5 && KEPT_FROM(whole, 3) && KEPT_FROM(part, 2));
+    memset(&part, FILL, sizeof part);
+#define REFUSED16(number, src, lines, row, first, count, slots, starts, sizes, window, precision, room)                                            \
+    CHECK(mirror_vertical_u16(frame, src, lines, row, first, count, halves, slots, starts, 1, sizes, 1, window, precision, part.at, room) == (number) && \
+          UNCHANGED(part))
+    REFUSED16(MIRROR_DONE, 6, 2, 3, 3, 0, 2, nought, twos, 2, 4, 0);
+    REFUSED16(MIRROR_BAD_SIDE, 6, 0, 3, 0, 2, 2, nought, twos, 2, 4, 2);
+    REFUSED16(MIRROR_BAD_SIDE, 6, 2, 32769, 0, 2, 2, nought, twos, 2, 4, 2);
+    REFUSED16(MIRROR_DOES_NOT_FIT, 5, 2, 3, 0, 2, 2, nought, twos, 2, 4, 2);
+    REFUSED16(MIRROR_DOES_NOT_FIT, 6, 2, 3, 2, 2, 2, nought, twos, 2, 4, 2);
+    REFUSED16(MIRROR_DOES_NOT_FIT, 6, 2, 3, UINT32_MAX, 2, 2, nought, twos, 2, 4, 2);
+    REFUSED16(MIRROR_DOES_NOT_FIT, 6, 2, 3, 0, 2, 2, nought, twos, 2, 4, 1);
+    REFUSED16(MIRROR_DOES_NOT_FIT, 6, 2, 3, 0, 2, 2, ones, twos, 2, 4, 2);
+    REFUSED16(MIRROR_DOES_NOT_FIT, 6, 2, 3, 0, 2, 2, nought, threes, 2, 4, 2);
+    REFUSED16(MIRROR_DOES_NOT_FIT, 6, 2, 3, 0, 2, 1, nought, twos, 2, 4, 2);
+    REFUSED16(MIRROR_DOES_NOT_FIT, 6, 2, 3, 0, 2, 2, nought, twos, 2, 3, 2);
+    REFUSED16(MIRROR_DOES_NOT_FIT, 6, 2, 3, 0, 2, 2, nought, twos, 2, 46, 2);
+}
+
+static void check_f32(void)
+{
+    static const double halves[] = {0.5, 0.5}, heavy[] = {0x1p65, 0}, largest[] = {0x1p64, 0}, broken[] = {0.5, NAN};
+    static const float frame[] = {1, 2, 3, 4}, spoilt[] = {1, INFINITY, 3, 4};
+    LENT(float, out, 2);
+#define F32(src, src_len, lines, row, first, count, weights, sizes, room) \
+    mirror_vertical_f32(src, src_len, lines, row, first, count, weights, 2, nought, 1, sizes, 1, 2, out.at, room)
+    CHECK(F32(frame, 4, 2, 2, 0, 2, halves, twos, 2) == MIRROR_DONE && out.at[0] == 2 && out.at[1] == 3 && KEPT_FROM(out, 2));
+    /* what is not in use is not looked at: column 1, and the second slot */
+    CHECK(F32(spoilt, 4, 2, 2, 0, 1, halves, twos, 1) == MIRROR_DONE && out.at[0] == 2 && KEPT_FROM(out, 2) == 1);
+    CHECK(F32(frame, 4, 2, 2, 0, 2, broken, ones, 2) == MIRROR_DONE && out.at[0] == 0.5f && out.at[1] == 1);
+    CHECK(F32(frame, 4, 2, 2, 0, 2, largest, twos, 2) == MIRROR_DONE && out.at[0] == 0x1p64f);
+    memset(&out, FILL, sizeof out);
+    CHECK(F32(frame, 4, 8193, 2, 0, 2, halves, twos, 2) == MIRROR_BAD_SIDE && UNCHANGED(out));
+    CHECK(F32(frame, 4, 2, 0, 0, 0, halves, twos, 0) == MIRROR_BAD_SIDE && UNCHANGED(out));
+    CHECK(F32(frame, 3, 2, 2, 0, 2, broken, twos, 2) == MIRROR_DOES_NOT_FIT && UNCHANGED(out));
+    CHECK(F32(spoilt, 4, 2, 2, 0, 2, halves, twos, 2) == MIRROR_SAMPLE_OUTSIDE && UNCHANGED(out));
+    CHECK(F32(frame, 4, 2, 2, 0, 2, broken, twos, 2) == MIRROR_SAMPLE_OUTSIDE && UNCHANGED(out));
+    CHECK(F32(frame, 4, 2, 2, 0, 2, heavy, twos, 2) == MIRROR_SAMPLE_OUTSIDE && UNCHANGED(out));
+}
+
+void check_passes(void)
+{
+    check_u16();
+    check_f32();
+}
+
+/* A colour with an alpha, by both forms of the function. */
+static int applied(uint32_t (*two)(const uint8_t *, size_t, uint8_t *, size_t), uint32_t (*in_place)(uint8_t *, size_t), uint8_t colour, uint8_t alpha)
+{
+    const uint8_t src[] = {colour, 0, colour, alpha};
+    LENT(uint8_t, dst, 4);
+    CHECK(two(src, 4, LIST(dst)) == MIRROR_DONE && dst.at[1] == 0 && dst.at[2] == dst.at[0] && dst.at[3] == alpha && KEPT_FROM(dst, 4));
+    LENT(uint8_t, own, 4);
+    memcpy(own.at, src, 4);
+    CHECK(in_place(LIST(own)) == MIRROR_DONE && memcmp(own.at, dst.at, 4) == 0 && KEPT_FROM(own, 4));
+    return dst.at[0];
+}
+
+void check_alpha(void)
+{
+#define MULTIPLIED(colour, alpha) applied(mirror_multiply_u8x4, mirror_multiply_u8x4_inplace, colour, alpha)
+#define DIVIDED(colour, alpha) applied(mirror_divide_u8x4, mirror_divide_u8x4_inplace, colour, alpha)
+    /* rows 1 to 6 */
+    CHECK(MULTIPLIED(128, 128) == 64 && MULTIPLIED(193, 253) == 191 && DIVIDED(191, 253) == 192 && MULTIPLIED(192, 253) == 190);
+    CHECK(DIVIDED(200, 0) == 0 && DIVIDED(200, 100) == 255 && DIVIDED(50, 100) == 128);
+    const uint8_t src[8] = {1, 2, 3, 4, 5, 6, 7, 8};
+    LENT(uint8_t, dst, 8);
+    CHECK(mirror_multiply_u8x4(src, 4, dst.at, 8) == MIRROR_DOES_NOT_FIT && mirror_divide_u8x4(src, 8, dst.at, 4) == MIRROR_DOES_NOT_FIT && UNCHANGED(dst));
+    CHECK(mirror_multiply_u8x4(src, 7, dst.at, 7) == MIRROR_DOES_NOT_FIT && mirror_divide_u8x4(src, 7, dst.at, 7) == MIRROR_DOES_NOT_FIT && UNCHANGED(dst));
+    CHECK(mirror_multiply_u8x4_inplace(dst.at, 6) == MIRROR_DOES_NOT_FIT && mirror_divide_u8x4_inplace(dst.at, 5) == MIRROR_DOES_NOT_FIT && UNCHANGED(dst));
+    CHECK(mirror_multiply_u8x4(src, 0, dst.at, 0) == MIRROR_DONE && mirror_divide_u8x4_inplace(dst.at, 0) == MIRROR_DONE && UNCHANGED(dst));
+}
