@@ -55,7 +55,26 @@ fn add16(ss: [f64; 16], src: &[f32], at: usize, w: f64) -> [f64; 16]
     r
 }
 
-// The sums of sixteen columns.
+// Two lines' parts of sixteen sums, the first line's before the second's: the sums are read and written once for both.
+fn add_two16(ss: [f64; 16], src: &[f32], at: usize, next: usize, w: f64, v: f64) -> [f64; 16]
+    requires { ⌜ length ss ≡ 16 ⌝ }
+    requires { ⌜ at + 16 ≤ length (now src) ⌝ }
+    requires { ⌜ next + 16 ≤ length (now src) ⌝ }
+    requires { ⌜ ((t : ℕ) → t < 16 → T (not (isNan (getD (now src) (at + t) nan)))) ⌝ }
+    requires { ⌜ ((t : ℕ) → t < 16 → T (not (isNan (getD (now src) (next + t) nan)))) ⌝ }
+    ensures { λ r. ⌜ length r ≡ 16 ⌝ }
+    ensures { λ r. ⌜ ((t : ℕ) → t < 16 → getD r t nan ≡ add binary64 (add binary64 (getD ss t nan) (mul binary64 (getD (now (src .entry)) (at + t) nan) w)) (mul binary64 (getD (now (src .entry)) (next + t) nan) v)) ⌝ }
+{
+    let mut r = ss;
+    let mut t: usize = 0;
+    while t < 16 {
+        r[t] = step(step(r[t], w, src[at + t]), v, src[next + t]);
+        t = t + 1;
+    }
+    r
+}
+
+// The sums of sixteen columns, two lines a turn; an odd last line by itself.
 pub(crate) fn sums16(src: &[f32], row: usize, at0: usize, ws: &[f64]) -> [f64; 16]
     requires { ⌜ Good (now ws) (now src) at0 row 16 ⌝ }
     ensures { λ r. ⌜ ((t : ℕ) → t < 16 → getD r t nan ≡ columnSum (now (ws .entry)) (now (src .entry)) (at0 + t) row (length (now (ws .entry)))) ⌝ }
@@ -63,11 +82,18 @@ pub(crate) fn sums16(src: &[f32], row: usize, at0: usize, ws: &[f64]) -> [f64; 1
     let mut ss: [f64; 16] = [0.0; 16];
     let mut at = at0;
     let mut k: usize = 0;
-    while k < ws.len() {
-        let n = add16(ss, src, at, ws[k]);
+    let mut left = ws.len();
+    while 1 < left {
+        let next = at + row;
+        let n = add_two16(ss, src, at, next, ws[k], ws[k + 1]);
         ss = n;
-        at = at + row;
-        k = k + 1;
+        at = next + row;
+        k = k + 2;
+        left = left - 2;
     }
-    ss
+    if 0 < left {
+        add16(ss, src, at, ws[k])
+    } else {
+        ss
+    }
 }
