@@ -1,6 +1,6 @@
 // Standard input, line by line, in a buffer of 262,144 bytes. A line that does not fit is answered by `bad`, and the next is read.
 use crate::buffer;
-use asking::emit;
+use telling::emit;
 
 // The bytes at .. end are read and not yet answered; long: they are the rest of a line that did not fit; n: the output's place.
 struct State {

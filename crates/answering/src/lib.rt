@@ -4,8 +4,8 @@ mod buffer;
 mod input;
 
 use asking::Words;
-use asking::emit;
 pub use input::run;
+use telling::emit;
 
 // One line's answer, with its newline.
 pub(crate) fn answer(line: &[u8], n: usize, out: &mut [u8]) -> usize {
@@ -20,6 +20,24 @@ pub(crate) fn answer(line: &[u8], n: usize, out: &mut [u8]) -> usize {
 fn by_group(line: &[u8], w: Words, n: usize, out: &mut [u8]) -> usize {
     if ask_numbers::knows(line, w) {
         return ask_numbers::answer(line, w, n, out);
+    }
+    if ask_alpha::knows(line, w) {
+        return ask_alpha::answer(line, w, n, out);
+    }
+    if ask_crop::knows(line, w) {
+        return ask_crop::answer(line, w, n, out);
+    }
+    if ask_normalizer::knows(line, w) {
+        return ask_normalizer::answer(line, w, n, out);
+    }
+    if ask_weights::knows(line, w) {
+        return ask_weights::answer(line, w, n, out);
+    }
+    if ask_passes::knows(line, w) {
+        return ask_passes::answer(line, w, n, out);
+    }
+    if ask_sheet::knows(line, w) {
+        return ask_sheet::answer(line, w, n, out);
     }
     emit::bad(n, out)
 }

@@ -1,8 +1,8 @@
 // The requests `abs`, `floor`, `ceil`, `round`, `narrow` of a double's pattern and `widen` of a single's, answered by `numbers`.
 use asking::Num;
 use asking::Words;
-use asking::emit;
 use asking::fields;
+use telling::emit;
 
 // Whether the line's first word is one of these requests.
 pub fn knows(line: &[u8], w: Words) -> bool {

@@ -1,4 +1,4 @@
-// Casts between a field or an element and the number that a line has for it, total: what is out of range gives 0.
+// Casts of the number that a line has for a field or an element, total: what is out of range gives 0.
 pub(crate) fn to_u8(x: u64) -> u8 {
     if 255 < x {
         return 0;
@@ -20,18 +20,6 @@ pub(crate) fn to_u32(x: u64) -> u32 {
     x as u32
 }
 
-pub(crate) fn from_u8(x: u8) -> u64 {
-    x as u64
-}
-
-pub(crate) fn from_u16(x: u16) -> u64 {
-    x as u64
-}
-
-pub(crate) fn from_u32(x: u32) -> u64 {
-    x as u64
-}
-
 // What a lent list holds at place i before a call: (7 i + 3) mod 251.
 pub(crate) fn lent(i: usize) -> u64 {
     ((7 * (i % 251) + 3) % 251) as u64
@@ -51,20 +39,4 @@ pub(crate) fn to_f64(b: u64) -> f64 {
         return 0.0 / 0.0;
     }
     f64::from_bits(b)
-}
-
-// The pattern of a single; one pattern for every NaN.
-pub(crate) fn from_f32(x: f32) -> u32 {
-    if x != x {
-        return 0x7fc0_0000;
-    }
-    f32::to_bits(x)
-}
-
-// The pattern of a double; one pattern for every NaN.
-pub(crate) fn from_f64(x: f64) -> u64 {
-    if x != x {
-        return 0x7ff8_0000_0000_0000;
-    }
-    f64::to_bits(x)
 }

@@ -6,6 +6,9 @@ use crate::signed;
 use crate::words;
 use crate::words::Words;
 
+// The length of what is malformed: no list is so long, so a caller's one test of the length refuses both.
+pub const MALFORMED: usize = usize::MAX;
+
 pub enum Whole {
     Is(u32),
     Bad,
@@ -13,11 +16,6 @@ pub enum Whole {
 
 pub enum Integer {
     Is(i32),
-    Bad,
-}
-
-pub enum Count {
-    Is(usize),
     Bad,
 }
 
@@ -63,12 +61,12 @@ pub fn double_at(line: &[u8], w: Words, k: usize) -> Double {
     }
 }
 
-// Word k as the length of a lent list, at most 131,072.
-pub fn length_at(line: &[u8], w: Words, k: usize) -> Count {
+// Word k as the length of a lent list, `MALFORMED` above 131,072 too.
+pub fn length_at(line: &[u8], w: Words, k: usize) -> usize {
     let read = digits::decimal(line, words::from(w, k), words::to(w, k), 131072);
     match read {
-        Num::Is(x) => Count::Is(x as usize),
-        Num::Bad => Count::Bad,
+        Num::Is(x) => x as usize,
+        Num::Bad => MALFORMED,
     }
 }
 

@@ -1,24 +1,23 @@
-// Lists of i32: read from a line, filled before a call, shown in an answer.
+// Lists of i32: read from a line, and filled before a call.
 use crate::convert;
 use crate::digits::Num;
-use crate::emit;
 use crate::fields;
-use crate::fields::Count;
+use crate::fields::MALFORMED;
 use crate::signed;
 use crate::words;
 use crate::words::Words;
 
-// Word k as a list into out: how many elements; Bad where one is malformed or out is too short. `-` is the empty list.
-pub fn read(line: &[u8], w: Words, k: usize, out: &mut [i32]) -> Count {
+// Word k as a list into out: how many elements, `MALFORMED` where one is malformed or out is too short. `-` is the empty list.
+pub fn read(line: &[u8], w: Words, k: usize, out: &mut [i32]) -> usize {
     if fields::is(line, w, k, b"-") {
-        return Count::Is(0);
+        return 0;
     }
     items(line, words::from(w, k), words::to(w, k), out)
 }
 
-fn items(s: &[u8], a: usize, e: usize, out: &mut [i32]) -> Count {
+fn items(s: &[u8], a: usize, e: usize, out: &mut [i32]) -> usize {
     if s.len() < e {
-        return Count::Bad;
+        return MALFORMED;
     }
     let mut at = a;
     let mut n: usize = 0;
@@ -26,16 +25,16 @@ fn items(s: &[u8], a: usize, e: usize, out: &mut [i32]) -> Count {
         let c = words::find(s, b',', at, e);
         let item = signed::code(s, at, c, 2147483647);
         let Num::Is(x) = item else {
-            return Count::Bad;
+            return MALFORMED;
         };
         if out.len() <= n {
-            return Count::Bad;
+            return MALFORMED;
         }
         out[n] = signed::to_i32(x);
         n += 1;
         at = c + 1;
     }
-    Count::Is(n)
+    n
 }
 
 // What a lent list holds before a call.
@@ -46,18 +45,4 @@ pub fn fill(out: &mut [i32]) {
         out[i] = signed::pos32(convert::lent(i));
         i += 1;
     }
-}
-
-// The elements joined by commas, `-` where there are none.
-pub fn show(list: &[i32], n: usize, out: &mut [u8]) -> usize {
-    if list.len() == 0 {
-        return emit::byte(b'-', n, out);
-    }
-    let mut p = n;
-    let mut i: usize = 0;
-    while i < list.len() {
-        p = emit::signed_item(i, list[i], p, out);
-        i += 1;
-    }
-    p
 }

@@ -1,9 +1,8 @@
-// Requests and answers as text (docs/PROTOCOL.md): `split` cuts a line into its words, `fields` reads a word, `emit` prints one,
-// and a module for each element type (`u8s` .. `f64s`) reads, fills and shows lists. No contract says what is read or printed,
-// since none could speak of the streams; every function is safe at every argument, because it tests what it is given.
+// Requests as text (docs/PROTOCOL.md): `split` cuts a line into its words, `fields` reads a word, and a module for each
+// element type (`u8s` .. `f64s`) reads a list or fills one that is lent. No contract says what is read: none could speak of a text
+// in general terms that is shorter than the code. Every function is safe at every argument, because it tests what it is given.
 mod convert;
 mod digits;
-pub mod emit;
 pub mod f32s;
 pub mod f64s;
 pub mod fields;

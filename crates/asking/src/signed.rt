@@ -24,7 +24,7 @@ fn negative(size: Num) -> Num {
         return Num::Bad;
     };
     if x == 0 {
-        return Num::Is(0);
+        return Num::Bad;
     }
     if 0xffff_ffff < x {
         return Num::Bad;
@@ -88,16 +88,4 @@ fn neg16(x: u64) -> i16 {
     }
     let y = x as i16;
     -1 - y
-}
-
-// The size of an i32.
-pub(crate) fn size(v: i32) -> u64 {
-    if v < 0 {
-        return ((-1 - v) as u64) + 1;
-    }
-    v as u64
-}
-
-pub(crate) fn from_i16(x: i16) -> i32 {
-    x as i32
 }

@@ -1,24 +1,23 @@
-// Lists of u8: read from a line, filled before a call, shown in an answer.
+// Lists of u8: read from a line, and filled before a call.
 use crate::convert;
 use crate::digits;
 use crate::digits::Num;
-use crate::emit;
 use crate::fields;
-use crate::fields::Count;
+use crate::fields::MALFORMED;
 use crate::words;
 use crate::words::Words;
 
-// Word k as a list into out: how many elements; Bad where one is malformed or out is too short. `-` is the empty list.
-pub fn read(line: &[u8], w: Words, k: usize, out: &mut [u8]) -> Count {
+// Word k as a list into out: how many elements, `MALFORMED` where one is malformed or out is too short. `-` is the empty list.
+pub fn read(line: &[u8], w: Words, k: usize, out: &mut [u8]) -> usize {
     if fields::is(line, w, k, b"-") {
-        return Count::Is(0);
+        return 0;
     }
     items(line, words::from(w, k), words::to(w, k), out)
 }
 
-fn items(s: &[u8], a: usize, e: usize, out: &mut [u8]) -> Count {
+fn items(s: &[u8], a: usize, e: usize, out: &mut [u8]) -> usize {
     if s.len() < e {
-        return Count::Bad;
+        return MALFORMED;
     }
     let mut at = a;
     let mut n: usize = 0;
@@ -26,16 +25,16 @@ fn items(s: &[u8], a: usize, e: usize, out: &mut [u8]) -> Count {
         let c = words::find(s, b',', at, e);
         let item = digits::decimal(s, at, c, 255);
         let Num::Is(x) = item else {
-            return Count::Bad;
+            return MALFORMED;
         };
         if out.len() <= n {
-            return Count::Bad;
+            return MALFORMED;
         }
         out[n] = convert::to_u8(x);
         n += 1;
         at = c + 1;
     }
-    Count::Is(n)
+    n
 }
 
 // What a lent list holds before a call.
@@ -46,32 +45,4 @@ pub fn fill(out: &mut [u8]) {
         out[i] = convert::to_u8(convert::lent(i));
         i += 1;
     }
-}
-
-// The elements joined by commas, `-` where there are none.
-pub fn show(list: &[u8], n: usize, out: &mut [u8]) -> usize {
-    if list.len() == 0 {
-        return emit::byte(b'-', n, out);
-    }
-    let mut p = n;
-    let mut i: usize = 0;
-    while i < list.len() {
-        p = emit::item(i, convert::from_u8(list[i]), p, out);
-        i += 1;
-    }
-    p
-}
-
-// The bytes as two hexadecimal digits each, `-` where there are none.
-pub fn show_hex(list: &[u8], n: usize, out: &mut [u8]) -> usize {
-    if list.len() == 0 {
-        return emit::byte(b'-', n, out);
-    }
-    let mut p = n;
-    let mut i: usize = 0;
-    while i < list.len() {
-        p = emit::hex(convert::from_u8(list[i]), 2, p, out);
-        i += 1;
-    }
-    p
 }

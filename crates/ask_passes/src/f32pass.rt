@@ -1,0 +1,89 @@
+// f32pass LINES ROW FIRST COUNT WINDOW WEIGHTS STARTS SIZES SAMPLES NOUT
+use crate::f32lists;
+use crate::frame;
+use crate::frame::Frame;
+use crate::frame::Framed;
+use asking::Words;
+use asking::f32s;
+use asking::fields;
+use telling::emit;
+use vertical::Passed;
+
+pub(crate) fn answer(line: &[u8], w: Words, n: usize, out: &mut [u8]) -> usize {
+    if w.count != 11 {
+        return emit::bad(n, out);
+    }
+    let frame_read = frame::frame_of(line, w);
+    let Framed::Is(f) = frame_read else {
+        return emit::bad(n, out);
+    };
+    if fields::small(line, w, 10) {
+        return f32lists::small(f, line, w, n, out);
+    }
+    f32lists::large(f, line, w, n, out)
+}
+
+pub(crate) fn read_samples(
+    f: Frame,
+    weights: &[f64],
+    starts: &[u32],
+    sizes: &[u32],
+    line: &[u8],
+    w: Words,
+    n: usize,
+    out: &mut [u8],
+    samples: &mut [f32],
+    lent: &mut [f32],
+) -> usize {
+    let a: usize = 0;
+    let i = f32s::read(line, w, 9, samples);
+    if samples.len() < i {
+        return emit::bad(n, out);
+    }
+    let m = fields::length_at(line, w, 10);
+    if lent.len() < m {
+        return emit::bad(n, out);
+    }
+    pass(
+        f,
+        weights,
+        starts,
+        sizes,
+        &samples[a..i],
+        &mut lent[a..m],
+        n,
+        out,
+    )
+}
+
+fn pass(
+    f: Frame,
+    weights: &[f64],
+    starts: &[u32],
+    sizes: &[u32],
+    samples: &[f32],
+    lent: &mut [f32],
+    n: usize,
+    out: &mut [u8],
+) -> usize {
+    f32s::fill(lent);
+    let answer = vertical_f32::vert_convolution_f32(
+        samples,
+        f.lines,
+        f.row,
+        f.first,
+        f.count,
+        weights,
+        starts,
+        sizes,
+        f.window,
+        lent,
+    );
+    show(answer, lent, n, out)
+}
+
+fn show(answer: Passed, lent: &[f32], n: usize, out: &mut [u8]) -> usize {
+    let p = emit::whole(frame::passed_number(answer), n, out);
+    let q = emit::byte(b' ', p, out);
+    telling::f32s::show(lent, q, out)
+}

@@ -1,0 +1,16 @@
+// Lists of i32, shown in an answer.
+use crate::emit;
+
+// The elements joined by commas, `-` where there are none.
+pub fn show(list: &[i32], n: usize, out: &mut [u8]) -> usize {
+    if list.len() == 0 {
+        return emit::byte(b'-', n, out);
+    }
+    let mut p = n;
+    let mut i: usize = 0;
+    while i < list.len() {
+        p = emit::signed_item(i, list[i], p, out);
+        i += 1;
+    }
+    p
+}
