@@ -43,14 +43,12 @@ def signatures(text):
     """(name, start, stop) of each definition: from its signature to the next one. Fields of a record belong to it."""
     found, place, inside = [], 0, None
     for line in text.splitlines(True):
-        m = SIGNED.match(line)
-        if m:
-            depth = len(m.group(1))
-            if inside is not None and depth <= inside:
-                inside = None
-            if inside is None:
-                found.append((m.group(2) or m.group(3), place))
-                inside = depth if m.group(2) else None
+        m, depth = SIGNED.match(line), len(line) - len(line.lstrip())
+        if inside is not None and line.strip() and depth <= inside:
+            inside = None
+        if m and inside is None:
+            found.append((m.group(2) or m.group(3), place))
+            inside = depth if m.group(2) else None
         place += len(line)
     stops = [p for _, p in found[1:]] + [len(text)]
     return [(n, p, q) for (n, p), q in zip(found, stops)]

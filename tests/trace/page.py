@@ -37,7 +37,9 @@ class Page:
             return self.definition(x)
         path, text = x
         short = path[len("crates/"):] if path.startswith("crates/") else path
-        return "`%s` in %s" % (text.replace("|", "\\|"), self.ref(short, short, path)) if short != path else self.ref(path + ", " + text.strip("# "), path, path)
+        if short == path:
+            return self.ref(path + ", " + text.strip("# "), path, path)
+        return "`%s` in %s" % (text.replace("|", "\\|"), self.ref(short, short.rsplit(".", 1)[0], path))
 
     def contract(self, x):
         name, clauses, roots = x
@@ -47,10 +49,9 @@ class Page:
     def row(self, rule):
         cells = self.links.cells[rule.id]
         show = {"definition": self.thing, "contract": self.contract, "theorem": self.law, "edit": self.edit, "run": str}
-        join = {"definition": ", ", "contract": "<br>", "theorem": ", ", "edit": ", ", "run": ", "}
         out = []
         for cell in book.CELLS:
-            text = join[cell].join(show[cell](x) for x in cells[cell])
+            text = ("<br>" if cell == "contract" else ", ").join(show[cell](x) for x in cells[cell])
             out.append(text or "*%s*" % rule.no.get(cell, "?"))
         return "| %s | %s%s | %s |" % (rule.id, rule.label, ". *%s*" % rule.but if rule.but else "", " | ".join(out))
 
@@ -97,8 +98,7 @@ class Page:
             how = self.back.how.get(d, "?")
             parts.setdefault(how if not how.startswith("in ") else "in", []).append(self.definition(d) + (" " + how if how.startswith("in ") else ""))
         titles = {"in": "Parts of other definitions", "inner": "Of inner functions' contracts only", "laws only": "Of laws only"}
-        for how, names in parts.items():
-            self.out.append("%s: %s.\n" % (titles.get(how, how), ", ".join(names)))
+        self.out += ["%s: %s.\n" % (titles.get(how, how[:1].upper() + how[1:]), ", ".join(names)) for how, names in parts.items()]
 
     def empty(self):
         self.out.append("## Empty cells\n\n| Name | Why the cell is empty | Where |\n|---|---|---|")
