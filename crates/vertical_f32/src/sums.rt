@@ -85,7 +85,7 @@ fn first16(src: &[f32], row: usize, at0: usize, ws: &[f64], n: usize) -> [f64; 1
     ss
 }
 
-// The sums of sixteen columns: the lines that four does not divide first, then four a turn, so that the sums stay in registers and the turns are few.
+// The sums of sixteen columns: first the one to three lines that four does not divide, if any, then four a turn, so that few instructions go to the turns.
 pub(crate) fn sums16(src: &[f32], row: usize, at0: usize, ws: &[f64]) -> [f64; 16]
     requires { ⌜ Good (now ws) (now src) at0 row 16 ⌝ }
     ensures { λ r. ⌜ ((t : ℕ) → t < 16 → getD r t nan ≡ columnSum (now (ws .entry)) (now (src .entry)) (at0 + t) row (length (now (ws .entry)))) ⌝ }
