@@ -28,7 +28,7 @@ type Normalizer16 = <Door as Named>::Normalizer16;
 type Normalizer32 = <Door as Named>::Normalizer32;
 
 /// Results are kept, so that no run pays for giving memory back; sets that a run consumes are made beforehand.
-const RUNS: usize = 5;
+const RUNS: usize = 210;
 
 pub enum Job {
     Alpha { divide: bool, src: Frame<U8x4>, dst: FrameMut<U8x4> },
