@@ -1,4 +1,4 @@
--- The proofs of `BoxPremise` and `BoxFlat`. The builder's half says that a window is n slots of 1 / n (BoxSet); no weight is above 1, so the precision is 30 to 45
+-- A Box set that was built and stored meets the premise of the flat frame at every window. The builder's half says that a window is n slots of 1 / n (BoxSet); no weight is above 1, so the precision is 30 to 45
 -- (BoxPrecision); no weight in use left its type, so each becomes the same integer K, and `box` gives n K near enough to 2^P. Assumes nothing.
 use mathlib.Core.Path.{_≡_, refl, sym, ap, _∙_, subst}
 use mathlib.Core.Bool.{Bool, true, false, cond, not, _&&_, _||_}
@@ -33,7 +33,6 @@ use Rattle.numbers.proofs.Sizes.{half-le}
 use Rattle.refusal.specs.declared.Refusal.{Refusal}
 use Rattle.windows.specs.Fit.{badSides, badSet}
 use Rattle.windows.specs.Set.{Set, windows}
-use Rattle.vertical.specs.U16.{written16}
 use Rattle.normalizer.specs.declared.Normalized.{Normalized}
 use Rattle.normalizer.specs.declared.Normalized.the-variants.{Done as Normal, Refused}
 use Rattle.normalizer.specs.Precision.{power, scaled, precision, integer}
@@ -44,11 +43,10 @@ use Rattle.coefficients.specs.declared.Built.the-variants.{Done as Built}
 use Rattle.coefficients.specs.Request.{builtOf}
 use Rattle.coefficients.specs.Lines.{size}
 use Rattle.promises.specs.FlatFrames.{NearOne}
-use Rattle.promises.specs.BoxKeepsFlat.{builtSet, stored, BoxPremise, BoxFlat}
+use Rattle.promises.specs.BoxKeepsFlat.{builtSet, storedSet}
 use Rattle.promises.proofs.Box.{weight, box, scaled as product}
 use Rattle.promises.proofs.BoxSet as set
 use Rattle.promises.proofs.BoxPrecision.{rounded-is, largest-within, precise}
-use Rattle.promises.proofs.FlatFrame.{flat-frame}
 
 -- ---- what a normaliser that was not refused found
 abbrev kept : Normalized → ℕ
@@ -148,6 +146,10 @@ module _ (q : Request) (lines : ℕ) (ws : List Float) (ss zs : List ℕ) (w : �
   abbrev s : Set Float
   s = builtSet q lines ws ss zs w
 
+  -- what the normaliser leaves of it
+  abbrev held : Set ℤ
+  held = storedSet s P out
+
   got : Accepted 46 31 s P
   got = accepted 46 31 s (length out) P normal
 
@@ -199,7 +201,7 @@ module _ (q : Request) (lines : ℕ) (ws : List Float) (ss zs : List ℕ) (w : �
         (under (inUse w (s .sizes) x) (not (lt (scaled P (weight n)) (neg (power 31)))) (lt (scaled P (weight n)) (power 31)) (used 0 some) kept)
 
     -- every slot in use of the stored set holds that integer
-    stored-at : (k : ℕ) → k < n → getD (stored q lines ws ss zs w out P .weights) (i * w + k) (pos 0) ≡ pos (each n P some many (exact .1))
+    stored-at : (k : ℕ) → k < n → getD (held .weights) (i * w + k) (pos 0) ≡ pos (each n P some many (exact .1))
     unfolding writtenOf writtenBy
     stored-at k l =
         let x = i * w + k in
@@ -211,19 +213,9 @@ module _ (q : Request) (lines : ℕ) (ws : List Float) (ss zs : List ℕ) (w : �
         ∙ ap (integer 31 P) (share k l)
         ∙ integer-is n P some many (exact .1) fits
 
-    near : NearOne (stored q lines ws ss zs w out P) i
+    pub near : NearOne held i
     near =
         let K = each n P some many (exact .1) in
-        let all : sum (λ k. getD (stored q lines ws ss zs w out P .weights) (i * w + k) (pos 0)) n ≡ pos (K * n) =
-        sum-ext (λ k. getD (stored q lines ws ss zs w out P .weights) (i * w + k) (pos 0)) (λ k. pos K) n stored-at ∙ sum-equal K n in
+        let all : sum (λ k. getD (held .weights) (i * w + k) (pos 0)) n ≡ pos (K * n) =
+        sum-ext (λ k. getD (held .weights) (i * w + k) (pos 0)) (λ k. pos K) n stored-at ∙ sum-equal K n in
         rw (size-is, all, distance-pos (K * n) (2 ^ P)) (box n P some many (exact .0) (exact .1))
-
-pub box-premise : BoxPremise
-box-premise q lines ws ss zs w out P ok i h = near q lines ws ss zs w out P (ok .0) (ok .1) (ok .2) i h
-
-pub box-flat : BoxFlat
-box-flat q lines ws ss zs w out P ok src row first count old v done top flat =
-    let s = stored q lines ws ss zs w out P in
-    let long : windows s ≡ q .output = set.long-starts q ws ss zs w (ok .0) (ok .1) in
-    subst (λ (m : ℕ). written16 s src row first count old ≡ tab 0 (m * count) (λ k. v)) long
-    (flat-frame s src row first count old v done top flat (λ i h. box-premise q lines ws ss zs w out P ok i (lt-of-lt-of-le h (le-of-eq long))))

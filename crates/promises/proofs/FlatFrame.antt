@@ -19,17 +19,21 @@ use Rattle.vertical.specs.U16.{passed16, written16, valueAt}
 use Rattle.vertical.proofs.Answers.{Tests16, tests16, Shaped, shaped}
 use Rattle.vertical.proofs.Columns.{some-column}
 use Rattle.promises.specs.FlatFrames.{NearOne, Flat, FlatFrame}
+use Rattle.promises.proofs.Accepted.{passed-done}
 use Rattle.promises.proofs.Frames.{flat-unchanged}
 
 pub flat-frame : FlatFrame
 unfolding written16
-flat-frame s src row first count old v done top flat near =
+flat-frame s src row first count old v none top flat near =
     rw done
     (tab-ext 0 (windows s * count) (grid count (λ i j. valueAt 65535 s (frame 0 src row) i (first + j))) (λ k. v)
     (λ k h.
     let some = some-column (windows s) count k h in
     rw zero-add (here (k / count) (k % count) (div-lt-iff-lt-mul some .1 h) (mod-lt k some))))
   where
+    done : passed16 s src row first count (length old) ≡ Done
+    done = passed-done (passed16 s src row first count (length old)) none
+
     tests : Tests16 s src row first count (length old)
     tests = tests16 s src row first count (length old) done
 

@@ -1,3 +1,4 @@
+mod Accepted
 pub mod Frames
 pub mod FlatFrame
 pub mod Box
@@ -8,6 +9,7 @@ pub mod BoxPlan
 pub mod BoxSet
 pub mod BoxPrecision
 pub mod BoxPremise
+pub mod BoxFlat
 pub mod ColumnCuts
 pub mod Restated
 pub mod Table

@@ -11,11 +11,12 @@ use Rattle.lists.specs.Tab.{tab}
 use Rattle.filters.specs.declared.FilterType.the-variants.{Box}
 use Rattle.windows.specs.Set.{Set, setOf, windows}
 use Rattle.coefficients.specs.declared.Request.{Request}
-use Rattle.coefficients.specs.declared.Built.the-variants.{Done as Built}
+use Rattle.coefficients.specs.declared.Built.{Built}
+use Rattle.coefficients.specs.Answer.{numberOf as numberOfBuilt, windowOf}
 use Rattle.coefficients.specs.Request.{builtOf, weightsOf, startsOf, sizesOf}
-use Rattle.normalizer.specs.declared.Normalized.the-variants.{Done as Normal}
-use Rattle.normalizer.specs.Answer.{normalizedOf, writtenOf}
-use Rattle.vertical.specs.declared.Passed.the-variants.{Done}
+use Rattle.normalizer.specs.declared.Normalized.{Normalized}
+use Rattle.normalizer.specs.Answer.{normalizedOf, writtenOf, numberOf as numberOfNormalized, precisionIn}
+use Rattle.vertical.specs.Passed.{numberOf}
 use Rattle.vertical.specs.U16.{passed16, written16}
 use Rattle.promises.specs.FlatFrames.{NearOne, Flat}
 
@@ -30,23 +31,32 @@ builtSet q lines ws ss zs w =
 abbrev pub storedSet : Set Float → ℕ → List ℤ → Set ℤ
 storedSet s P out = setOf (s .lines) (s .window) (take (windows s * s .window) (writtenOf 46 31 s out)) (s .starts) (s .sizes) P
 
--- the builder accepts q with the window size w, and the normaliser accepts what it built with the precision P
-module _ (q : Request) (lines : ℕ) (ws : List Float) (ss zs : List ℕ) (w : ℕ) (out : List ℤ) (P : ℕ) where
+-- a request, what is lent to the builder and to the 32-bit normaliser, and what they answer
+module _ (q : Request) (lines : ℕ) (ws : List Float) (ss zs : List ℕ) (out : List ℤ) where
+  abbrev pub built : Built
+  built = builtOf q (length ws) (length ss) (length zs)
+
+  abbrev pub fresh : Set Float
+  fresh = builtSet q lines ws ss zs (windowOf built)
+
+  abbrev pub normal : Normalized
+  normal = normalizedOf 46 31 fresh (length out)
+
+  -- Box was asked for, and both answered 0
   abbrev pub Accepted : Type 0
-  Accepted =
-      (q .filter ≡ Box) × (builtOf q (length ws) (length ss) (length zs) ≡ Built w) × (normalizedOf 46 31 (builtSet q lines ws ss zs w) (length out) ≡ Normal P)
+  Accepted = (q .filter ≡ Box) × (numberOfBuilt built ≡ 0) × (numberOfNormalized normal ≡ 0)
 
   abbrev pub stored : Set ℤ
-  stored = storedSet (builtSet q lines ws ss zs w) P out
+  stored = storedSet fresh (precisionIn normal) out
 
 abbrev pub BoxPremise : Type 0
 BoxPremise =
-    (q : Request) (lines : ℕ) (ws : List Float) (ss zs : List ℕ) (w : ℕ) (out : List ℤ) (P : ℕ) → Accepted q lines ws ss zs w out P
-    → (i : ℕ) → i < q .output → NearOne (stored q lines ws ss zs w out P) i
+    (q : Request) (lines : ℕ) (ws : List Float) (ss zs : List ℕ) (out : List ℤ) → Accepted q lines ws ss zs out
+    → (i : ℕ) → i < q .output → NearOne (stored q lines ws ss zs out) i
 
 abbrev pub BoxFlat : Type 0
 BoxFlat =
-    (q : Request) (lines : ℕ) (ws : List Float) (ss zs : List ℕ) (w : ℕ) (out : List ℤ) (P : ℕ) → Accepted q lines ws ss zs w out P
+    (q : Request) (lines : ℕ) (ws : List Float) (ss zs : List ℕ) (out : List ℤ) → Accepted q lines ws ss zs out
     → (src : List ℕ) (row first count : ℕ) (old : List ℕ) (v : ℕ)
-    → passed16 (stored q lines ws ss zs w out P) src row first count (length old) ≡ Done → v ≤ 65535 → Flat v src
-    → written16 (stored q lines ws ss zs w out P) src row first count old ≡ tab 0 (q .output * count) (λ k. v)
+    → numberOf (passed16 (stored q lines ws ss zs out) src row first count (length old)) ≡ 0 → v ≤ 65535 → Flat v src
+    → written16 (stored q lines ws ss zs out) src row first count old ≡ tab 0 (q .output * count) (λ k. v)

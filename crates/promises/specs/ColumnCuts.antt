@@ -8,22 +8,22 @@ use lib.IntN.{ℤ}
 use lib.Ieee.{Float, nan}
 use lib.ListN.{length}
 use Rattle.windows.specs.Set.{Set, windows}
-use Rattle.vertical.specs.declared.Passed.the-variants.{Done}
 use Rattle.vertical.specs.Frame.{columns}
+use Rattle.vertical.specs.Passed.{numberOf}
 use Rattle.vertical.specs.U16.{passed16, written16}
 use Rattle.vertical.specs.F32.{passed32, written32}
 
 -- `whole` is lent to the pass over the whole row, `list` to the pass over the range
 abbrev pub ColumnsCutU16 : Type 0
 ColumnsCutU16 =
-    (s : Set ℤ) (src : List ℕ) (row : ℕ) (whole : List ℕ) → passed16 s src row 0 row (length whole) ≡ Done
+    (s : Set ℤ) (src : List ℕ) (row : ℕ) (whole : List ℕ) → numberOf (passed16 s src row 0 row (length whole)) ≡ 0
     → (first count : ℕ) (list : List ℕ) → first + count ≤ row → length list ≡ windows s * count
-    → (passed16 s src row first count (length list) ≡ Done)
+    → (numberOf (passed16 s src row first count (length list)) ≡ 0)
     × (written16 s src row first count list ≡ columns 0 row (windows s) first count (written16 s src row 0 row whole))
 
 abbrev pub ColumnsCutF32 : Type 0
 ColumnsCutF32 =
-    (s : Set Float) (src : List Float) (row : ℕ) (whole : List Float) → passed32 s src row 0 row (length whole) ≡ Done
+    (s : Set Float) (src : List Float) (row : ℕ) (whole : List Float) → numberOf (passed32 s src row 0 row (length whole)) ≡ 0
     → (first count : ℕ) (list : List Float) → first + count ≤ row → length list ≡ windows s * count
-    → (passed32 s src row first count (length list) ≡ Done)
+    → (numberOf (passed32 s src row first count (length list)) ≡ 0)
     × (written32 s src row first count list ≡ columns nan row (windows s) first count (written32 s src row 0 row whole))

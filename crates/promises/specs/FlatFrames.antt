@@ -9,7 +9,7 @@ use lib.ListN.{length, getD}
 use Rattle.lists.specs.Tab.{tab}
 use Rattle.integers.specs.Sums.{sum, distance, value}
 use Rattle.windows.specs.Set.{Set, windows, size, weight}
-use Rattle.vertical.specs.declared.Passed.the-variants.{Done}
+use Rattle.vertical.specs.Passed.{numberOf}
 use Rattle.vertical.specs.U16.{passed16, written16}
 
 -- at one window: w are the weights of its n lines, K is their sum
@@ -29,5 +29,5 @@ Flat v src = (x : ℕ) → x < length src → getD src x 0 ≡ v
 abbrev pub FlatFrame : Type 0
 FlatFrame =
     (s : Set ℤ) (src : List ℕ) (row first count : ℕ) (old : List ℕ) (v : ℕ)
-    → passed16 s src row first count (length old) ≡ Done → v ≤ 65535 → Flat v src → ((i : ℕ) → i < windows s → NearOne s i)
+    → numberOf (passed16 s src row first count (length old)) ≡ 0 → v ≤ 65535 → Flat v src → ((i : ℕ) → i < windows s → NearOne s i)
     → written16 s src row first count old ≡ tab 0 (windows s * count) (λ k. v)

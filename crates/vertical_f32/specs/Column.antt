@@ -1,5 +1,6 @@
 -- One column of one window, as the inner functions see it: weights in a slice, samples of the frame `row` apart. Cited by their contracts only; the pass's
 -- own contract cites `vertical`. Definitions only. Assumes nothing.
+use mathlib.Core.Path.{_≡_}
 use mathlib.Core.List.{List}
 use Prim.Native.Nat.{ℕ, zero, suc, _+_, _*_, _^_, _<_, _≤_}
 use lib.ListN.{length, getD, take, drop}
@@ -27,3 +28,7 @@ pub record Good (ws src : List Float) (at row cols : ℕ) : Type 0 where
   pub there : (k : ℕ) → k < length ws → at + k * row + cols ≤ length src
   pub heavy : (k : ℕ) → k < length ws → AtMost (getD ws k nan) (2 ^ 64)
   pub light : (k t : ℕ) → k < length ws → t < cols → AtMost (getD src (at + k * row + t) nan) (2 ^ 128)
+
+-- sixteen columns side by side from `at` on: their sums of the window's first k lines
+abbrev pub Sums16 : List Float → List Float → List Float → ℕ → ℕ → ℕ → Type 0
+Sums16 ss ws src at row k = (length ss ≡ 16) × ((t : ℕ) → t < 16 → getD ss t nan ≡ columnSum ws src (at + t) row k)

@@ -5,7 +5,7 @@ ghost use Prim.Native.Nat.{ℕ, _+_, _<_, _≤_};
 ghost use lib.Dec.{T};
 ghost use lib.ListN.{length, getD};
 ghost use lib.Ieee.{binary64, nan, add, mul, isNan};
-ghost use Rattle.vertical_f32.specs.Column.{columnSum, Good};
+ghost use Rattle.vertical_f32.specs.Column.{columnSum, Good, Sums16};
 
 fn widen(x: f32) -> f64
     requires { ⌜ T (not (isNan x)) ⌝ }
@@ -38,14 +38,15 @@ pub(crate) fn sum(src: &[f32], row: usize, at0: usize, ws: &[f64]) -> f64
     acc
 }
 
-// One line's part of sixteen sums.
-fn add16(ss: [f64; 16], src: &[f32], at: usize, w: f64) -> [f64; 16]
-    requires { ⌜ length ss ≡ 16 ⌝ }
-    requires { ⌜ at + 16 ≤ length (now src) ⌝ }
-    requires { ⌜ ((t : ℕ) → t < 16 → T (not (isNan (getD (now src) (at + t) nan)))) ⌝ }
-    ensures { λ r. ⌜ length r ≡ 16 ⌝ }
-    ensures { λ r. ⌜ ((t : ℕ) → t < 16 → getD r t nan ≡ add binary64 (getD ss t nan) (mul binary64 (getD (now (src .entry)) (at + t) nan) w)) ⌝ }
+// Sixteen sums of k lines, and line k more.
+fn add16(ss: [f64; 16], src: &[f32], row: usize, at0: usize, ws: &[f64], k: usize) -> [f64; 16]
+    requires { ⌜ Good (now ws) (now src) at0 row 16 ⌝ }
+    requires { ⌜ k < length (now ws) ⌝ }
+    requires { ⌜ Sums16 ss (now ws) (now src) at0 row k ⌝ }
+    ensures { λ r. ⌜ Sums16 r (now (ws .entry)) (now (src .entry)) at0 row (k + 1) ⌝ }
 {
+    let at = at0 + k * row;
+    let w = ws[k];
     let mut r = ss;
     let mut t: usize = 0;
     while t < 16 {
@@ -55,45 +56,46 @@ fn add16(ss: [f64; 16], src: &[f32], at: usize, w: f64) -> [f64; 16]
     r
 }
 
-// Two lines' parts of sixteen sums, the first line's before the second's: the sums are read and written once for both.
-fn add_two16(ss: [f64; 16], src: &[f32], at: usize, next: usize, w: f64, v: f64) -> [f64; 16]
-    requires { ⌜ length ss ≡ 16 ⌝ }
-    requires { ⌜ at + 16 ≤ length (now src) ⌝ }
-    requires { ⌜ next + 16 ≤ length (now src) ⌝ }
-    requires { ⌜ ((t : ℕ) → t < 16 → T (not (isNan (getD (now src) (at + t) nan)))) ⌝ }
-    requires { ⌜ ((t : ℕ) → t < 16 → T (not (isNan (getD (now src) (next + t) nan)))) ⌝ }
-    ensures { λ r. ⌜ length r ≡ 16 ⌝ }
-    ensures { λ r. ⌜ ((t : ℕ) → t < 16 → getD r t nan ≡ add binary64 (add binary64 (getD ss t nan) (mul binary64 (getD (now (src .entry)) (at + t) nan) w)) (mul binary64 (getD (now (src .entry)) (next + t) nan) v)) ⌝ }
+// Four lines more.
+fn add_four16(ss: [f64; 16], src: &[f32], row: usize, at0: usize, ws: &[f64], k: usize) -> [f64; 16]
+    requires { ⌜ Good (now ws) (now src) at0 row 16 ⌝ }
+    requires { ⌜ k + 4 ≤ length (now ws) ⌝ }
+    requires { ⌜ Sums16 ss (now ws) (now src) at0 row k ⌝ }
+    ensures { λ r. ⌜ Sums16 r (now (ws .entry)) (now (src .entry)) at0 row (k + 4) ⌝ }
 {
-    let mut r = ss;
-    let mut t: usize = 0;
-    while t < 16 {
-        r[t] = step(step(r[t], w, src[at + t]), v, src[next + t]);
-        t = t + 1;
-    }
-    r
+    let a = add16(ss, src, row, at0, ws, k);
+    let b = add16(a, src, row, at0, ws, k + 1);
+    let c = add16(b, src, row, at0, ws, k + 2);
+    add16(c, src, row, at0, ws, k + 3)
 }
 
-// The sums of sixteen columns, two lines a turn; an odd last line by itself.
+// Sixteen sums of the first n lines, line by line.
+fn first16(src: &[f32], row: usize, at0: usize, ws: &[f64], n: usize) -> [f64; 16]
+    requires { ⌜ Good (now ws) (now src) at0 row 16 ⌝ }
+    requires { ⌜ n ≤ length (now ws) ⌝ }
+    ensures { λ r. ⌜ Sums16 r (now (ws .entry)) (now (src .entry)) at0 row n ⌝ }
+{
+    let mut ss: [f64; 16] = [0.0; 16];
+    let mut k: usize = 0;
+    while k < n {
+        let more = add16(ss, src, row, at0, ws, k);
+        ss = more;
+        k = k + 1;
+    }
+    ss
+}
+
+// The sums of sixteen columns: first the one to three lines that four does not divide, if any, then four a turn, so that few instructions go to the turns.
 pub(crate) fn sums16(src: &[f32], row: usize, at0: usize, ws: &[f64]) -> [f64; 16]
     requires { ⌜ Good (now ws) (now src) at0 row 16 ⌝ }
     ensures { λ r. ⌜ ((t : ℕ) → t < 16 → getD r t nan ≡ columnSum (now (ws .entry)) (now (src .entry)) (at0 + t) row (length (now (ws .entry)))) ⌝ }
 {
-    let mut ss: [f64; 16] = [0.0; 16];
-    let mut at = at0;
-    let mut k: usize = 0;
-    let mut left = ws.len();
-    while 1 < left {
-        let next = at + row;
-        let n = add_two16(ss, src, at, next, ws[k], ws[k + 1]);
-        ss = n;
-        at = next + row;
-        k = k + 2;
-        left = left - 2;
+    let mut k = ws.len() % 4;
+    let mut ss = first16(src, row, at0, ws, k);
+    while k < ws.len() {
+        let more = add_four16(ss, src, row, at0, ws, k);
+        ss = more;
+        k = k + 4;
     }
-    if 0 < left {
-        add16(ss, src, at, ws[k])
-    } else {
-        ss
-    }
+    ss
 }
