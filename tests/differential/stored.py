@@ -29,6 +29,10 @@ def testfloat(path):
 def numbers(r):
     names = ("floor", "ceil", "round", "narrow")
     last = 2**52 - 1
+    for x in (2.5, -2.5, -0.5):  # rows 13 and 14 of document 01's table
+        yield "round %s" % hex64(x)
+    for x in (1 + 2**-24, 1 + 3 * 2**-24):
+        yield "narrow %s" % hex64(x)
     for e in range(2047):  # every exponent's first pattern, or its last
         f, sign = (0, last)[e // 4 % 2], e // 8 % 2
         yield "%s %016x" % (names[e % 4], sign << 63 | e << 52 | f)
