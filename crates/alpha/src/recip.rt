@@ -1,4 +1,4 @@
-// 65280 / alpha rounded half up, for each alpha; 0 for alpha 0.
+// A table of the Rust written out, a file of its own as CLIP8_LOOKUPS is in `clips`: 65280 / alpha rounded half up, for each alpha; 0 for alpha 0.
 pub(crate) const RECIP_ALPHA: [u32; 256] = [
     0,
     65280,

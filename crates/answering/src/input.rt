@@ -1,15 +1,9 @@
 // Standard input, line by line, in a buffer of 262,144 bytes. A line that does not fit is answered by `bad`, and the next is read.
 use crate::buffer;
+use crate::state::State;
+use crate::state::ended;
+use crate::state::going;
 use telling::emit;
-
-// The bytes at .. end are read and not yet answered; long: they are the rest of a line that did not fit; n: the output's place.
-struct State {
-    at: usize,
-    end: usize,
-    long: bool,
-    done: bool,
-    n: usize,
-}
 
 // Answers standard input to its end. The buffers stand here, apart from the loop.
 pub fn run() {
@@ -20,13 +14,7 @@ pub fn run() {
 
 // Nothing says that the input ends, so the turns are counted down from a number that no run uses up.
 fn serve(buf: &mut [u8], out: &mut [u8]) {
-    let mut s = State {
-        at: 0,
-        end: 0,
-        long: false,
-        done: false,
-        n: 0,
-    };
+    let mut s = going(0, 0, false, 0);
     let mut turns = u64::MAX;
     while turns > 0 {
         let t = turn(s, buf, out);
@@ -38,28 +26,6 @@ fn serve(buf: &mut [u8], out: &mut [u8]) {
         turns -= 1;
     }
     emit::flush(s.n, out);
-}
-
-// The end: nothing is left to answer.
-fn ended(n: usize) -> State {
-    State {
-        at: 0,
-        end: 0,
-        long: false,
-        done: true,
-        n: n,
-    }
-}
-
-// More to do: the bytes at .. end.
-fn going(at: usize, end: usize, long: bool, n: usize) -> State {
-    State {
-        at: at,
-        end: end,
-        long: long,
-        done: false,
-        n: n,
-    }
 }
 
 // Answers one line, or reads once.
@@ -80,6 +46,7 @@ fn turn(s: State, buf: &mut [u8], out: &mut [u8]) -> State {
     refill(s, buf, out)
 }
 
+// One line's answer, `bad` where its beginning was forgotten.
 fn one(long: bool, line: &[u8], n: usize, out: &mut [u8]) -> usize {
     if long {
         let p = emit::bad(n, out);

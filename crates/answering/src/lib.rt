@@ -2,6 +2,7 @@
 // crate and one more arm of `by_group`.
 mod buffer;
 mod input;
+mod state;
 
 use asking::Words;
 pub use input::run;
@@ -17,6 +18,7 @@ pub(crate) fn answer(line: &[u8], n: usize, out: &mut [u8]) -> usize {
     emit::byte(b'\n', p, out)
 }
 
+// The first group of requests that knows the line answers it; `bad` where none does.
 fn by_group(line: &[u8], w: Words, n: usize, out: &mut [u8]) -> usize {
     if ask_numbers::knows(line, w) {
         return ask_numbers::answer(line, w, n, out);

@@ -34,18 +34,21 @@ pub fn answer(line: &[u8], w: Words, n: usize, out: &mut [u8]) -> usize {
     large(divide, line, w, n, out)
 }
 
+// For lists of up to 1,024.
 fn small(divide: bool, line: &[u8], w: Words, n: usize, out: &mut [u8]) -> usize {
     let mut src = [0u8; 1024];
     let mut lent = [0u8; 1024];
     read(divide, line, w, n, out, &mut src, &mut lent)
 }
 
+// For all others.
 fn large(divide: bool, line: &[u8], w: Words, n: usize, out: &mut [u8]) -> usize {
     let mut src = [0u8; 131072];
     let mut lent = [0u8; 131072];
     read(divide, line, w, n, out, &mut src, &mut lent)
 }
 
+// SRC and NOUT, words 1 and 2.
 fn read(
     divide: bool,
     line: &[u8],
@@ -67,12 +70,14 @@ fn read(
     work(divide, &src[a..k], &mut lent[a..m], n, out)
 }
 
+// The output is filled before the call, written and shown.
 fn work(divide: bool, src: &[u8], lent: &mut [u8], n: usize, out: &mut [u8]) -> usize {
     u8s::fill(lent);
     let answer = applied(divide, src, lent);
     shown(answer, lent, n, out)
 }
 
+// Multiplied or divided.
 fn applied(divide: bool, src: &[u8], lent: &mut [u8]) -> Applied {
     if divide {
         return alpha::divide_alpha(src, lent);
@@ -87,6 +92,7 @@ fn shown(answer: Applied, list: &[u8], n: usize, out: &mut [u8]) -> usize {
     telling::u8s::show(list, q, out)
 }
 
+// The number of alpha's answer.
 fn applied_number(answer: Applied) -> u32 {
     match answer {
         Applied::Done => 0,

@@ -35,6 +35,7 @@ fn centring(line: &[u8], w: Words) -> Placed {
     Placed::Is(Centring::At(across, down))
 }
 
+// The line's answer.
 pub(crate) fn fit(line: &[u8], w: Words, n: usize, out: &mut [u8]) -> usize {
     let placed = centring(line, w);
     let Placed::Is(place) = placed else {
@@ -60,6 +61,7 @@ pub(crate) fn fit(line: &[u8], w: Words, n: usize, out: &mut [u8]) -> usize {
     show(fitted, n, out)
 }
 
+// The number and the box.
 fn show(fitted: Fitted, n: usize, out: &mut [u8]) -> usize {
     match fitted {
         Fitted::Fit(b) => show_box(0, b, n, out),
@@ -67,6 +69,7 @@ fn show(fitted: Fitted, n: usize, out: &mut [u8]) -> usize {
     }
 }
 
+// The four numbers beside a refusal.
 fn no_box() -> CropBox {
     CropBox {
         left: 0.0,
@@ -76,6 +79,7 @@ fn no_box() -> CropBox {
     }
 }
 
+// A number and four doubles.
 fn show_box(no: u32, b: CropBox, n: usize, out: &mut [u8]) -> usize {
     let p = emit::whole(no, n, out);
     let q = next_double(b.left, p, out);
@@ -84,6 +88,7 @@ fn show_box(no: u32, b: CropBox, n: usize, out: &mut [u8]) -> usize {
     next_double(b.height, s, out)
 }
 
+// A space and a double.
 fn next_double(x: f64, n: usize, out: &mut [u8]) -> usize {
     let p = emit::byte(b' ', n, out);
     emit::double(x, p, out)

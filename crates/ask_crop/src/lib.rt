@@ -64,6 +64,7 @@ fn crop(line: &[u8], w: Words, n: usize, out: &mut [u8]) -> usize {
     emit::whole(crop_number(crop_box::crop(width, height, b)), n, out)
 }
 
+// The number of the crop's answer.
 fn crop_number(answer: Cropped) -> u32 {
     match answer {
         Cropped::Inside(_) => 0,

@@ -41,6 +41,7 @@ pub fn answer(line: &[u8], w: Words, n: usize, out: &mut [u8]) -> usize {
     norm32::large(s, line, w, n, out)
 }
 
+// clip8 I
 fn clip8(line: &[u8], w: Words, n: usize, out: &mut [u8]) -> usize {
     if w.count != 2 {
         return emit::bad(n, out);
@@ -52,6 +53,7 @@ fn clip8(line: &[u8], w: Words, n: usize, out: &mut [u8]) -> usize {
     emit::whole(wide(clips::clip8(v)), n, out)
 }
 
+// A byte as a number of 32 bits.
 fn wide(x: u8) -> u32 {
     x as u32
 }

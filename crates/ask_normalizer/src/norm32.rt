@@ -8,6 +8,7 @@ use asking::u32s;
 use normalizer::Normalized;
 use telling::emit;
 
+// For lists of up to 1,024.
 pub(crate) fn small(s: Sides, line: &[u8], w: Words, n: usize, out: &mut [u8]) -> usize {
     let mut weights = [0.0f64; 1024];
     let mut starts = [0u32; 1024];
@@ -26,6 +27,7 @@ pub(crate) fn small(s: Sides, line: &[u8], w: Words, n: usize, out: &mut [u8]) -
     )
 }
 
+// For all others.
 pub(crate) fn large(s: Sides, line: &[u8], w: Words, n: usize, out: &mut [u8]) -> usize {
     let mut weights = [0.0f64; 16384];
     let mut starts = [0u32; 16384];
@@ -44,6 +46,7 @@ pub(crate) fn large(s: Sides, line: &[u8], w: Words, n: usize, out: &mut [u8]) -
     )
 }
 
+// The lists, words 3 to 5, and NOUT, word 6.
 fn read(
     s: Sides,
     line: &[u8],
@@ -83,6 +86,7 @@ fn read(
     )
 }
 
+// The normaliser itself, its list filled before the call.
 fn normalize(
     s: Sides,
     weights: &[f64],
@@ -97,6 +101,7 @@ fn normalize(
     show(answer, lent, n, out)
 }
 
+// The number, the precision and the list.
 fn show(answer: Normalized, lent: &[i32], n: usize, out: &mut [u8]) -> usize {
     let p = crate::sides::show_normalized(answer, n, out);
     let q = emit::byte(b' ', p, out);

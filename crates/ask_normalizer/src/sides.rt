@@ -15,6 +15,7 @@ pub(crate) enum Sided {
     Bad,
 }
 
+// The two numbers of a line.
 pub(crate) fn sides_of(line: &[u8], w: Words) -> Sided {
     let lines_read = fields::whole_at(line, w, 1);
     let Whole::Is(lines) = lines_read else {
@@ -38,6 +39,7 @@ pub(crate) fn show_normalized(answer: Normalized, n: usize, out: &mut [u8]) -> u
     }
 }
 
+// Two numbers.
 fn show_numbers(no: u32, precision: u32, n: usize, out: &mut [u8]) -> usize {
     let p = emit::whole(no, n, out);
     let q = emit::byte(b' ', p, out);

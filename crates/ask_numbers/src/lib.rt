@@ -25,6 +25,7 @@ pub fn answer(line: &[u8], w: Words, n: usize, out: &mut [u8]) -> usize {
     double(line, w, n, out)
 }
 
+// widen X, the pattern of a single.
 fn widen(line: &[u8], w: Words, n: usize, out: &mut [u8]) -> usize {
     let x_read = fields::hex_at(line, w, 1, 8);
     let Num::Is(x) = x_read else {
@@ -33,6 +34,7 @@ fn widen(line: &[u8], w: Words, n: usize, out: &mut [u8]) -> usize {
     emit::hex(numbers::widen_bits(pattern32(x)), 16, n, out)
 }
 
+// A pattern of 32 bits; 0 for what is longer, which 8 digits cannot be.
 fn pattern32(x: u64) -> u32 {
     if 0xffff_ffff < x {
         return 0;
@@ -40,10 +42,12 @@ fn pattern32(x: u64) -> u32 {
     x as u32
 }
 
+// A pattern of 32 bits as a number of 64.
 fn wide(x: u32) -> u64 {
     x as u64
 }
 
+// The others, of the pattern of a double.
 fn double(line: &[u8], w: Words, n: usize, out: &mut [u8]) -> usize {
     let x_read = fields::hex_at(line, w, 1, 16);
     let Num::Is(x) = x_read else {

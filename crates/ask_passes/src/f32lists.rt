@@ -1,4 +1,4 @@
-// The lists of `f32pass`: arrays of the size that the request wants, and the parts of them in use.
+// The lists of `f32pass`, read into the arrays: only the parts in use are handed on.
 use crate::f32pass;
 use crate::frame::Frame;
 use asking::Words;
@@ -6,47 +6,8 @@ use asking::f64s;
 use asking::u32s;
 use telling::emit;
 
-pub(crate) fn small(f: Frame, line: &[u8], w: Words, n: usize, out: &mut [u8]) -> usize {
-    let mut weights = [0.0f64; 1024];
-    let mut starts = [0u32; 1024];
-    let mut sizes = [0u32; 1024];
-    let mut samples = [0.0f32; 1024];
-    let mut lent = [0.0f32; 1024];
-    read_weights(
-        f,
-        line,
-        w,
-        n,
-        out,
-        &mut weights,
-        &mut starts,
-        &mut sizes,
-        &mut samples,
-        &mut lent,
-    )
-}
-
-pub(crate) fn large(f: Frame, line: &[u8], w: Words, n: usize, out: &mut [u8]) -> usize {
-    let mut weights = [0.0f64; 16384];
-    let mut starts = [0u32; 16384];
-    let mut sizes = [0u32; 16384];
-    let mut samples = [0.0f32; 32768];
-    let mut lent = [0.0f32; 131072];
-    read_weights(
-        f,
-        line,
-        w,
-        n,
-        out,
-        &mut weights,
-        &mut starts,
-        &mut sizes,
-        &mut samples,
-        &mut lent,
-    )
-}
-
-fn read_weights(
+// WEIGHTS, word 6.
+pub(crate) fn read_weights(
     f: Frame,
     line: &[u8],
     w: Words,
@@ -77,6 +38,7 @@ fn read_weights(
     )
 }
 
+// STARTS and SIZES, words 7 and 8.
 fn read_windows(
     f: Frame,
     weights: &[f64],

@@ -1,5 +1,5 @@
 // f32pass LINES ROW FIRST COUNT WINDOW WEIGHTS STARTS SIZES SAMPLES NOUT
-use crate::f32lists;
+use crate::f32arrays;
 use crate::frame;
 use crate::frame::Frame;
 use crate::frame::Framed;
@@ -9,6 +9,7 @@ use asking::fields;
 use telling::emit;
 use vertical::Passed;
 
+// The line's answer.
 pub(crate) fn answer(line: &[u8], w: Words, n: usize, out: &mut [u8]) -> usize {
     if w.count != 11 {
         return emit::bad(n, out);
@@ -18,11 +19,12 @@ pub(crate) fn answer(line: &[u8], w: Words, n: usize, out: &mut [u8]) -> usize {
         return emit::bad(n, out);
     };
     if fields::small(line, w, 10) {
-        return f32lists::small(f, line, w, n, out);
+        return f32arrays::small(f, line, w, n, out);
     }
-    f32lists::large(f, line, w, n, out)
+    f32arrays::large(f, line, w, n, out)
 }
 
+// SAMPLES and NOUT, words 9 and 10.
 pub(crate) fn read_samples(
     f: Frame,
     weights: &[f64],
@@ -56,6 +58,7 @@ pub(crate) fn read_samples(
     )
 }
 
+// The pass itself, its output filled before the call.
 fn pass(
     f: Frame,
     weights: &[f64],
@@ -82,6 +85,7 @@ fn pass(
     show(answer, lent, n, out)
 }
 
+// The number and the output.
 fn show(answer: Passed, lent: &[f32], n: usize, out: &mut [u8]) -> usize {
     let p = emit::whole(frame::passed_number(answer), n, out);
     let q = emit::byte(b' ', p, out);

@@ -17,6 +17,7 @@ pub(crate) enum Framed {
     Bad,
 }
 
+// The five numbers of a line.
 pub(crate) fn frame_of(line: &[u8], w: Words) -> Framed {
     let lines_read = fields::whole_at(line, w, 1);
     let Whole::Is(lines) = lines_read else {

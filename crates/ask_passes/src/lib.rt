@@ -1,8 +1,10 @@
 // The requests `u16pass` and `f32pass`, answered by `vertical_u16` and `vertical_f32`. A module for each. The arrays stand in functions of
 // their own, and only the parts in use are handed on.
+mod f32arrays;
 mod f32lists;
 mod f32pass;
 mod frame;
+mod u16arrays;
 mod u16lists;
 mod u16pass;
 

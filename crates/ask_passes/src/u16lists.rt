@@ -1,4 +1,4 @@
-// The lists of `u16pass`: arrays of the size that the request wants, and the parts of them in use.
+// The lists of `u16pass`, read into the arrays: only the parts in use are handed on.
 use crate::frame::Frame;
 use crate::u16pass;
 use asking::Words;
@@ -6,63 +6,8 @@ use asking::i32s;
 use asking::u32s;
 use telling::emit;
 
-pub(crate) fn small(
-    f: Frame,
-    precision: u32,
-    line: &[u8],
-    w: Words,
-    n: usize,
-    out: &mut [u8],
-) -> usize {
-    let mut weights = [0i32; 1024];
-    let mut starts = [0u32; 1024];
-    let mut sizes = [0u32; 1024];
-    let mut samples = [0u16; 1024];
-    let mut lent = [0u16; 1024];
-    read_weights(
-        f,
-        precision,
-        line,
-        w,
-        n,
-        out,
-        &mut weights,
-        &mut starts,
-        &mut sizes,
-        &mut samples,
-        &mut lent,
-    )
-}
-
-pub(crate) fn large(
-    f: Frame,
-    precision: u32,
-    line: &[u8],
-    w: Words,
-    n: usize,
-    out: &mut [u8],
-) -> usize {
-    let mut weights = [0i32; 131072];
-    let mut starts = [0u32; 16384];
-    let mut sizes = [0u32; 16384];
-    let mut samples = [0u16; 131072];
-    let mut lent = [0u16; 131072];
-    read_weights(
-        f,
-        precision,
-        line,
-        w,
-        n,
-        out,
-        &mut weights,
-        &mut starts,
-        &mut sizes,
-        &mut samples,
-        &mut lent,
-    )
-}
-
-fn read_weights(
+// WEIGHTS, word 7.
+pub(crate) fn read_weights(
     f: Frame,
     precision: u32,
     line: &[u8],
@@ -95,6 +40,7 @@ fn read_weights(
     )
 }
 
+// STARTS and SIZES, words 8 and 9.
 fn read_windows(
     f: Frame,
     precision: u32,

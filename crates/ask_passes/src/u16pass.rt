@@ -2,7 +2,7 @@
 use crate::frame;
 use crate::frame::Frame;
 use crate::frame::Framed;
-use crate::u16lists;
+use crate::u16arrays;
 use asking::Words;
 use asking::fields;
 use asking::fields::Whole;
@@ -10,6 +10,7 @@ use asking::u16s;
 use telling::emit;
 use vertical::Passed;
 
+// The line's answer.
 pub(crate) fn answer(line: &[u8], w: Words, n: usize, out: &mut [u8]) -> usize {
     if w.count != 12 {
         return emit::bad(n, out);
@@ -23,11 +24,12 @@ pub(crate) fn answer(line: &[u8], w: Words, n: usize, out: &mut [u8]) -> usize {
         return emit::bad(n, out);
     };
     if fields::small(line, w, 11) {
-        return u16lists::small(f, precision, line, w, n, out);
+        return u16arrays::small(f, precision, line, w, n, out);
     }
-    u16lists::large(f, precision, line, w, n, out)
+    u16arrays::large(f, precision, line, w, n, out)
 }
 
+// SAMPLES and NOUT, words 10 and 11.
 pub(crate) fn read_samples(
     f: Frame,
     precision: u32,
@@ -63,6 +65,7 @@ pub(crate) fn read_samples(
     )
 }
 
+// The pass itself, its output filled before the call.
 fn pass(
     f: Frame,
     precision: u32,
@@ -91,6 +94,7 @@ fn pass(
     show(answer, lent, n, out)
 }
 
+// The number and the output.
 fn show(answer: Passed, lent: &[u16], n: usize, out: &mut [u8]) -> usize {
     let p = emit::whole(frame::passed_number(answer), n, out);
     let q = emit::byte(b' ', p, out);

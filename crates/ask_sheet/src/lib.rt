@@ -39,6 +39,7 @@ pub fn answer(line: &[u8], w: Words, n: usize, out: &mut [u8]) -> usize {
     emit::bad(n, out)
 }
 
+// The number, the length and the lent list's bytes.
 pub(crate) fn show(answer: Sheet, lent: &[u8], n: usize, out: &mut [u8]) -> usize {
     let p = show_numbers(answer, n, out);
     let q = emit::byte(b' ', p, out);
@@ -53,6 +54,7 @@ fn show_numbers(answer: Sheet, n: usize, out: &mut [u8]) -> usize {
     }
 }
 
+// Two numbers.
 fn show_pair(no: u32, length: u64, n: usize, out: &mut [u8]) -> usize {
     let p = emit::whole(no, n, out);
     let q = emit::byte(b' ', p, out);

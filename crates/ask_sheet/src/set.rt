@@ -17,6 +17,7 @@ pub(crate) enum Described {
     Bad,
 }
 
+// The four numbers of a line.
 pub(crate) fn set_of(line: &[u8], w: Words) -> Described {
     let kind_read = ask_kinds::kind_at(line, w, 1);
     let Kind::Is(kind) = kind_read else {

@@ -7,6 +7,7 @@ use asking::u8s;
 use asking::u32s;
 use telling::emit;
 
+// For lists of up to 1,024.
 pub(crate) fn small(set: Set, line: &[u8], w: Words, n: usize, out: &mut [u8]) -> usize {
     let mut weights = [0i32; 1024];
     let mut starts = [0u32; 1024];
@@ -25,6 +26,7 @@ pub(crate) fn small(set: Set, line: &[u8], w: Words, n: usize, out: &mut [u8]) -
     )
 }
 
+// For all others.
 pub(crate) fn large(set: Set, line: &[u8], w: Words, n: usize, out: &mut [u8]) -> usize {
     let mut weights = [0i32; 131072];
     let mut starts = [0u32; 16384];
@@ -43,6 +45,7 @@ pub(crate) fn large(set: Set, line: &[u8], w: Words, n: usize, out: &mut [u8]) -
     )
 }
 
+// The lists, words 6 to 8, and ROOM, word 9.
 fn read(
     set: Set,
     line: &[u8],
@@ -82,6 +85,7 @@ fn read(
     )
 }
 
+// The sheet itself, its list filled before the call.
 fn write(
     set: Set,
     weights: &[i32],

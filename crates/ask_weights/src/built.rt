@@ -3,6 +3,7 @@ use coefficients::Built;
 use refusal::Refusal;
 use telling::emit;
 
+// The three numbers and the three lists.
 pub(crate) fn show(
     built: Built,
     slots: &[f64],
@@ -20,6 +21,7 @@ pub(crate) fn show(
     telling::u32s::show(sizes, v, out)
 }
 
+// The three numbers of each case.
 fn show_built(built: Built, n: usize, out: &mut [u8]) -> usize {
     match built {
         Built::Done(window) => show_numbers(0, 0, window, n, out),

@@ -30,6 +30,7 @@ pub fn answer(line: &[u8], w: Words, n: usize, out: &mut [u8]) -> usize {
     large(r, line, w, n, out)
 }
 
+// For lists of up to 1,024.
 fn small(r: Request, line: &[u8], w: Words, n: usize, out: &mut [u8]) -> usize {
     let mut slots = [0.0f64; 1024];
     let mut starts = [0u32; 1024];
@@ -37,6 +38,7 @@ fn small(r: Request, line: &[u8], w: Words, n: usize, out: &mut [u8]) -> usize {
     read(r, line, w, n, out, &mut slots, &mut starts, &mut sizes)
 }
 
+// For all others.
 fn large(r: Request, line: &[u8], w: Words, n: usize, out: &mut [u8]) -> usize {
     let mut slots = [0.0f64; 65536];
     let mut starts = [0u32; 16384];
@@ -44,6 +46,7 @@ fn large(r: Request, line: &[u8], w: Words, n: usize, out: &mut [u8]) -> usize {
     read(r, line, w, n, out, &mut slots, &mut starts, &mut sizes)
 }
 
+// NSLOTS, NSTARTS and NSIZES, words 11 to 13.
 fn read(
     r: Request,
     line: &[u8],
@@ -77,6 +80,7 @@ fn read(
     )
 }
 
+// The lists filled before the call.
 fn filled(
     r: Request,
     slots: &mut [f64],
@@ -91,6 +95,7 @@ fn filled(
     build(r, slots, starts, sizes, n, out)
 }
 
+// The builder itself.
 fn build(
     r: Request,
     slots: &mut [f64],

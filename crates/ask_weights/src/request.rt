@@ -18,6 +18,7 @@ enum Choice {
     Bad,
 }
 
+// Word k as 0 or 1.
 fn choice_at(line: &[u8], w: Words, k: usize) -> Choice {
     if fields::is(line, w, k, b"0") {
         return Choice::Is(false);
@@ -28,6 +29,7 @@ fn choice_at(line: &[u8], w: Words, k: usize) -> Choice {
     Choice::Bad
 }
 
+// 1 is down, 0 across.
 fn axis_of(down: bool) -> Axis {
     if down {
         return Axis::Down;
@@ -35,6 +37,7 @@ fn axis_of(down: bool) -> Axis {
     Axis::Across
 }
 
+// The request of a line.
 pub(crate) fn request_of(line: &[u8], w: Words) -> Asked {
     let kind_read = ask_kinds::kind_at(line, w, 1);
     let Kind::Is(kind) = kind_read else {

@@ -20,8 +20,7 @@ use Rattle.floats.specs.Within.{Within}
 use Rattle.floats.proofs.Within.{unsigned, round-unsigned, round-within, within-add, unlike-signs}
 use Rattle.floats.proofs.Integers.{int, int-value, within-div-int}
 use Rattle.numbers.proofs.Ranges.{minusSign, round-minus, sub-sort}
-use Rattle.floats.specs.Doubles.{isFinite}
-use Rattle.floats.specs.Doubles.{zero64}
+use Rattle.floats.specs.Doubles.{isFinite, zero64}
 
 -- finite, and from 0, minus zero too, to n
 abbrev pub Clear : Float → ℕ → Type 0

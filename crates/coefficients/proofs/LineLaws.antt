@@ -9,16 +9,14 @@ use native.Mathlib.Omega.{arith}
 use lib.Dec.{ltb}
 use lib.ListN.{length, getD}
 use lib.Ieee.{Float, nan, eq}
-use borrow.Author.Tests.{ltb-true}
+use borrow.Author.Tests.{ltb-true, lt-ltb, le-ltb}
 use Rattle.lists.specs.Tab.{tab, front}
 use Rattle.lists.proofs.TabLaws.{tab-ext, front-below, length-front}
 use Rattle.numbers.proofs.Window.{range-fits-window}
 use Rattle.floats.specs.Doubles.{zero64}
 use Rattle.coefficients.specs.Weights.{weighs, leadOf, weightFrom, totalOf, upTo, weighsFrom, sizeOf, shareOf}
-use Rattle.coefficients.specs.Inner.{weighty, shareAt}
-use borrow.Author.Tests.{lt-ltb, le-ltb}
+use Rattle.coefficients.specs.Inner.{weighty, shareAt, RowFits, spanOf}
 use Rattle.coefficients.specs.Lines.{firstBlank, orZero, centre, rangeStart, rangeStop, middle, lead, held, total, size, slot}
-use Rattle.coefficients.specs.Inner.{RowFits, spanOf}
 use Rattle.coefficients.specs.declared.Plan.{Plan}
 use Rattle.coefficients.specs.declared.Span.{Span}
 use Rattle.lists.proofs.FirstLaws.{first-ge}

@@ -3,7 +3,7 @@ use mathlib.Core.Path.{_≡_, refl}
 use mathlib.Core.Bool.{false}
 use Prim.Native.Nat.{_^_}
 use lib.Ieee.{Float, nan, binary64, round, ofBits, ofInt, add, sub, mul, div, neg, lt, le}
-use Rattle.floats.specs.Doubles.{zero64, half64, one64, double}
+use Rattle.floats.specs.Doubles.{zero64, half64, one64}
 use Rattle.numbers.specs.Whole.{abs}
 use Rattle.crop_box.specs.Crop.{cropOf, numberOf}
 use Rattle.crop_box.specs.Fit.{fitOf, fittedBox, ratioBox, epsilon64, boxOf, numberOf as fitNumberOf}

@@ -4,7 +4,6 @@
 use mathlib.Core.Path.{_≡_, refl}
 use mathlib.Core.Bool.{true, false}
 use Prim.Native.Nat.{ℕ}
-use Rattle.floats.specs.Doubles.{double, _over_}
 use Rattle.crop_box.specs.Crop.{badSides, notFinite, negativeExtent, startOutside, endOutside, cropOf, numberOf}
 use Rattle.crop_box.specs.Fit.{largeSides, badCentring, fittedBox, acrossOf, downOf, fitOf, numberOf as fitNumberOf}
 use Rattle.crop_box.specs.declared.CropBox.{CropBox}

@@ -1,15 +1,13 @@
-// Fitting, operation by operation as in crop_box.rs of the Rust.
+// Fitting: its refusals, a zero side, and else the box of the display's ratio of sides.
 ghost use mathlib.Core.Path.{_≡_};
-ghost use Rattle.crop_box.specs.Fit.{fitOf, largeSides, zeroSide, placedBox, ratioBox, fittedBox};
+ghost use Rattle.crop_box.specs.Fit.{fitOf, largeSides, zeroSide, fittedBox};
 use crate::Centring;
 use crate::CropBox;
 use crate::Fitted;
 use crate::clamp01;
 use crate::finite;
+use crate::ratios::ratio_box;
 use refusal::Refusal;
-
-// 2^-52, the step from 1 to the next double.
-const EPSILON: f64 = 2.220446049250313e-16;
 
 // No. 1: a side above 8,192. A side of 0 is no refusal here.
 fn large_sides(src_width: u32, src_height: u32, dst_width: u32, dst_height: u32) -> bool
@@ -23,39 +21,6 @@ fn zero_side(src_width: u32, src_height: u32, dst_width: u32, dst_height: u32) -
     ensures answer { λ r. ⌜ r ≡ zeroSide «src_width» «src_height» «dst_width» «dst_height» ⌝ }
 {
     (src_width == 0) | (src_height == 0) | (dst_width == 0) | (dst_height == 0)
-}
-
-// A box of the given extent in a source of the given sides.
-fn placed(
-    width: f64,
-    height: f64,
-    crop_width: f64,
-    crop_height: f64,
-    across: f64,
-    down: f64,
-) -> CropBox
-    ensures answer { λ r. ⌜ r ≡ placedBox width height «crop_width» «crop_height» across down ⌝ }
-{
-    CropBox {
-        left: (width - crop_width) * across,
-        top: (height - crop_height) * down,
-        width: crop_width,
-        height: crop_height,
-    }
-}
-
-// The box with the ratio that is required: the source itself where its ratio is within 2^-52, else its sides or its top and bottom cut.
-fn ratio_box(width: f64, height: f64, required: f64, across: f64, down: f64) -> CropBox
-    ensures answer { λ r. ⌜ r ≡ ratioBox width height required across down ⌝ }
-{
-    let ratio = width / height;
-    if numbers::abs(ratio - required) < EPSILON {
-        return placed(width, height, width, height, across, down);
-    }
-    if ratio >= required {
-        return placed(width, height, required * height, height, across, down);
-    }
-    placed(width, height, width, width / required, across, down)
 }
 
 // The box of the display's ratio of sides, for a centring that is clamped; left 0, top 0 and the source's sides where any side is 0.

@@ -2,6 +2,7 @@
 // `fit_src_into_dst_size` gives the box that has the display's ratio of sides, placed by a `Centring`.
 mod checks;
 mod fitting;
+mod ratios;
 
 ghost use mathlib.Core.Path.{_≡_};
 ghost use Rattle.floats.specs.Doubles.{isFinite};

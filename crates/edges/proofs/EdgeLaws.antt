@@ -15,7 +15,7 @@ use lib.IntN.{pos}
 use Rattle.floats.proofs.Integers.{whole-val}
 use Rattle.floats.proofs.Value.{div-values}
 use Rattle.lists.proofs.FirstLaws.{first-ge, first-le}
-use Rattle.lists.proofs.BoolLaws.{never}
+use Rattle.lists.proofs.BoolLaws.{never, and-left, and-right}
 use Rattle.edges.specs.Digits.{digits, numeral}
 use Rattle.edges.specs.Edge.{isPattern, minus, wholeAt, isPoint, pointAt, fractionAt, beforeOf, placesOf, isDecimal, wholeOf}
 use Rattle.edges.proofs.DigitLaws.{numeral-small}
@@ -30,14 +30,6 @@ pub not-both : (a b : Bool) → not a || not b ≡ true → a && b ≡ false
 not-both true true h = sym h
 not-both true false h = refl
 not-both false b h = refl
-
-and-left : (a b : Bool) → a && b ≡ true → a ≡ true
-and-left true b h = refl
-and-left false b h = h
-
-and-right : (a b : Bool) → a && b ≡ true → b ≡ true
-and-right true b h = h
-and-right false b h = never (sym h)
 
 -- a pattern has 18 bytes
 pub pattern-long : (text : List ℕ) → isPattern text ≡ true → 18 ≤ length text

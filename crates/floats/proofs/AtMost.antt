@@ -1,8 +1,8 @@
 -- Floats of either sign, bounded in size (`AtMost`). Rounding does not cross a whole number that the format holds, so a sum or a product of
 -- bounded numbers is bounded, and finite. Cited by the f32 pass and by the Box promise. Assumes nothing.
-use mathlib.Core.Path.{_≡_, refl, sym, ap, _∙_, subst}
-use mathlib.Core.Bool.{Bool, true, false, not, _&&_, _||_, Bool·beq, cond}
-use Prim.Native.Nat.{ℕ, _+_, _-_, _*_, _^_, _≤_, _<_}
+use mathlib.Core.Path.{sym, ap, _∙_, subst}
+use mathlib.Core.Bool.{Bool, true, false, _&&_, Bool·beq, cond}
+use Prim.Native.Nat.{ℕ, _+_, _-_, _*_, _≤_, _<_}
 use native.Mathlib.Nat.{le-trans, le-of-eq, zero-lt-suc, mul-one, mul-comm, mul-assoc, mul-le-mul, mul-le-mul-right, mul-pos, mul-mul-mul-comm, add-mul, add-le-add}
 use native.Mathlib.Omega.{arith}
 use lib.Dec.{T, ltb}

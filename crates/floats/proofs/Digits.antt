@@ -4,7 +4,7 @@ use mathlib.Core.Path.{_≡_, refl, sym, ap, _∙_, subst}
 use mathlib.Core.Logic.{_⊎_, inl, inr}
 use mathlib.Core.Bool.{Bool, cond}
 use Prim.Native.Nat.{ℕ, suc, _+_, _-_, _*_, _/_, _%_, _^_, _≤_, _<_, min, compare, Ordering, Ordering·lt, Ordering·eq, Ordering·gt}
-use native.Mathlib.Nat.{le-suc, le-trans, le-of-eq, le-of-lt, lt-of-lt-of-le, lt-of-not-le, not-le-of-lt, zero-lt-suc, add-comm, mul-assoc, mul-le-mul-right, mul-pos, div-lt-iff-lt-mul, le-div-iff-mul-le, div-eq-of-lt, mod-eq-of-lt, mul-add-div-right, mul-add-mod-self-right}
+use native.Mathlib.Nat.{le-suc, le-trans, le-of-eq, le-of-lt, lt-of-lt-of-le, lt-of-not-le, not-le-of-lt, zero-lt-suc, add-comm, mul-assoc, mul-le-mul-right, mul-pos, div-lt-iff-lt-mul, le-div-iff-mul-le, div-eq-of-lt, mod-eq-of-lt, mul-add-div-right, mul-add-mod-self-right, ne-of-lt}
 use native.Mathlib.Omega.{arith}
 use lib.Dec.{T, isLe, isEq, eqb→eq, leb→le, le→leb}
 use lib.Pow.{pow-add, pow-pos, pow-mono, shl-lt, shr-lt}
@@ -15,14 +15,10 @@ use lib.Ieee.Exact.{HasValue, odd-sign}
 use lib.Ieee.Nearest.{closest, closest-same, nearest-ge}
 use Rattle.floats.proofs.Pattern.{fields, field-zero, field-mid, units-bits}
 
--- ---- rounding the fraction D * 2 ^ j / 2 ^ l to a format drops g of D's digits, and the result is k places above the format's smallest
 -- ---- what `compare` gives
 pub compare-lt : (a b : ℕ) → a < b → compare a b ≡ Ordering·lt
-compare-lt a b h = go (compare a b) (le→leb a b (le-of-lt h)) (λ t. clash a b h (eqb→eq a b t))
+compare-lt a b h = go (compare a b) (le→leb a b (le-of-lt h)) (λ t. ne-of-lt h (eqb→eq a b t))
   where
-    clash : (a b : ℕ) → a < b → a ≡ b → ⊥
-    clash a b h e = omega arith
-
     go : (o : Ordering) → T (isLe o) → (T (isEq o) → ⊥) → o ≡ Ordering·lt
     go Ordering·lt h n = refl
     go Ordering·eq h n = absurd (n tt)

@@ -79,7 +79,7 @@ module _ (f : Format) (a c : ℕ) (C : 0 < c) (N : prec f ≤ size (a * 2 ^ low 
       go (grid f a c * c) (kept (prec f) (a * 2 ^ low f) c * unit) (a * 2 ^ low f) unit (2 ^ (prec f - 1)) (2 ^ prec f) (two-hid f) grid-is (h .0) (h .1) lead
     where
       turn : (Z P H : ℕ) → P ≡ 2 * H → Z * P ≡ H * (2 * Z)
-      turn Z P H e = ap (λ (z : ℕ). Z * z) e ∙ simp (mul-assoc, mul-comm, mul-left-comm)
+      turn Z P H e = ap (λ (z : ℕ). Z * z) e ∙ simp (mul-comm, mul-left-comm)
 
       go : (G X A U H P : ℕ) → P ≡ 2 * H → G ≡ X → 2 * X ≤ 2 * A + U → 2 * A ≤ 2 * X + U → H * U ≤ A → (G * P ≤ A * P + A) × (A * P ≤ G * P + A)
       go G X A U H P p g x y l =

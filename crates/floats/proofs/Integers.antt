@@ -35,6 +35,9 @@ add-int a b h =
     r a b n h = omega arith
 
 -- ---- what is from 0 to a whole number stays so
+pub int-within : (n : ℕ) → n ≤ 2 ^ 53 → Within (int n) n
+int-within n h = round-within binary64 n 1 n (zero-lt-suc 0) h (le-of-eq (sym (mul-one n)))
+
 pub within-mul : (x y : Float) (A B : ℕ) → Within x A → Within y B → A * B ≤ 2 ^ 53 → Within (mul binary64 x y) (A * B)
 within-mul x y A B X Y l =
     let v = within-value x A X in

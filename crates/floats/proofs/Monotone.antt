@@ -8,7 +8,7 @@ use native.Mathlib.Omega.{arith}
 use lib.IntN.{ℤ}
 use lib.Dec.{T, ltb, leb, eqb, ltb→lt, nltb→le, eqb→eq, eqb-refl, leb→le}
 use lib.Ieee.{Float, nan, inf, fin, Format, binary32, binary64, up, down, round, neg, le, lt, below, level, sum, sub, mul, unlike}
-use lib.Ieee.Fits.{down-pos, up-pos}
+use lib.Ieee.Fits.{down-pos, up-pos, and-i, and-l, and-r}
 use lib.Ieee.Order.{round-mono}
 use lib.Ieee.Scale.{round-same, finite}
 use lib.Arith.{le→nltb}
@@ -41,26 +41,10 @@ le-neg (fin s m e) (inf false) h = tt
 le-neg (fin s m e) (fin t n d) h = turned s t (m * up e * down d) (n * up d * down e) h
   where
     same : (a b : ℕ) (c : Bool) → T (eqb a b && c) → a ≡ b
-    same a b c h = eqb→eq a b (first (eqb a b) c h)
-      where
-        first : (x y : Bool) → T (x && y) → T x
-        first true y t = tt
-        first false y t = t
-
-    or-r : (x y : Bool) → T y → T (x || y)
-    or-r true y t = tt
-    or-r false y t = t
-
-    or-l : (x y : Bool) → T x → T (x || y)
-    or-l true y t = tt
-    or-l false y t = absurd t
+    same a b c h = eqb→eq a b (and-l (eqb a b) c h)
 
     flip-eq : (a b : ℕ) → T (eqb a b && true) → T (eqb b a && true)
-    flip-eq a b h = subst (λ (z : ℕ). T (eqb z a && true)) (same a b true h) (both (eqb a a) (eqb-refl a))
-      where
-        both : (x : Bool) → T x → T (x && true)
-        both true t = tt
-        both false t = t
+    flip-eq a b h = subst (λ (z : ℕ). T (eqb z a && true)) (same a b true h) (and-i (eqb a a) true (eqb-refl a) tt)
 
     cases : (x y z : Bool) → (T y → T z) → T (x || y) → T (x || z)
     cases true y z f t = tt
@@ -69,12 +53,8 @@ le-neg (fin s m e) (fin t n d) h = turned s t (m * up e * down d) (n * up d * do
     zeros : (a b : ℕ) → T (eqb a b && (false || eqb a 0)) → T (eqb b a && (false || eqb b 0))
     zeros a b h =
         let p : a ≡ b = same a b (eqb a 0) h in
-        let q : a ≡ 0 = eqb→eq a 0 (second (eqb a b) (eqb a 0) h) in
+        let q : a ≡ 0 = eqb→eq a 0 (and-r (eqb a b) (eqb a 0) h) in
         subst (λ (z : ℕ). T (eqb z a && eqb z 0)) (sym (sym p ∙ q)) (subst (λ (z : ℕ). T (eqb 0 z && eqb 0 0)) (sym q) tt)
-      where
-        second : (x y : Bool) → T (x && y) → T y
-        second true y t = t
-        second false y t = absurd t
 
     turned : (s t : Bool) (a b : ℕ) → T (below s a t b || level s a t b) → T (below (not t) b (not s) a || level (not t) b (not s) a)
     turned false false a b h = cases (ltb a b) (eqb a b && true) (eqb b a && true) (flip-eq a b) h
@@ -84,6 +64,9 @@ le-neg (fin s m e) (fin t n d) h = turned s t (m * up e * down d) (n * up d * do
         subst (λ (z : ℕ). T (ltb 0 z || (eqb b a && (false || eqb b 0)))) (add-comm a b) (cases (ltb 0 (a + b)) (eqb a b && (false || eqb a 0)) (eqb b a && (false || eqb b 0)) (zeros a b) h)
 
 -- ---- what is not negative, and what is
+both-nought : (a b : ℕ) → a + b ≤ 0 → (a ≡ 0) × (b ≡ 0)
+both-nought a b h = omega arith
+
 le-across : (x y : Float) → T (unsigned x) → T (unsigned y) → T (le (neg x) y)
 unfolding le neg
 le-across nan y p q = absurd p
@@ -99,15 +82,12 @@ le-across (fin false m e) (inf false) p q = tt
 le-across (fin false m e) (fin true n d) p q = absurd q
 le-across (fin false m e) (fin false n d) p q = go (m * up e * down d) (n * up d * down e)
   where
-    nought : (a b : ℕ) → a + b ≤ 0 → (a ≡ 0) × (b ≡ 0)
-    nought a b h = omega arith
-
     go : (a b : ℕ) → T (ltb 0 (a + b) || (eqb a b && (false || eqb a 0)))
     go a b = split (ltb 0 (a + b)) (nltb→le 0 (a + b))
       where
         split : (t : Bool) → (T (not t) → a + b ≤ 0) → T (t || (eqb a b && (false || eqb a 0)))
         split true h = tt
-        split false h = let z = nought a b (h tt) in subst (λ (k : ℕ). T (eqb k b && (false || eqb k 0))) (sym (z .0)) (subst (λ (k : ℕ). T (eqb 0 k && (false || eqb 0 0))) (sym (z .1)) tt)
+        split false h = let z = both-nought a b (h tt) in subst (λ (k : ℕ). T (eqb k b && (false || eqb k 0))) (sym (z .0)) (subst (λ (k : ℕ). T (eqb 0 k && (false || eqb 0 0))) (sym (z .1)) tt)
 
 -- both zero, +0 and -0
 plain-zeros : (f : Format) → T (le (round f false 0 1) (round f true 0 1))
@@ -127,11 +107,8 @@ round-mono-signed f true true a c b d C D h =
     (subst (λ (z : Float). T (le (neg (round f false a c)) z)) (round-neg f false b d)
     (le-neg (round f false b d) (round f false a c) (round-mono f b d a c D C (nltb→le (a * d) (b * c) h))))
 round-mono-signed f true false a c b d C D h = subst (λ (z : Float). T (le z (round f false b d))) (round-neg f false a c) (le-across (round f false a c) (round f false b d) (round-unsigned f a c) (round-unsigned f b d))
-round-mono-signed f false true a c b d C D h = let z = both (b * c) (a * d) (nltb→le 0 (b * c + a * d) h) in le-zeros f a c b d C D (factor a d D (z .1)) (factor b c C (z .0))
+round-mono-signed f false true a c b d C D h = let z = both-nought (b * c) (a * d) (nltb→le 0 (b * c + a * d) h) in le-zeros f a c b d C D (factor a d D (z .1)) (factor b c C (z .0))
   where
-    both : (x y : ℕ) → x + y ≤ 0 → (x ≡ 0) × (y ≡ 0)
-    both x y h = omega arith
-
     factor : (a d : ℕ) → 0 < d → a * d ≡ 0 → a ≡ 0
     factor a d D e = eq-of-mul-eq-mul-right d D a 0 (e ∙ sym (zero-mul d))
 

@@ -4,7 +4,7 @@ use mathlib.Core.Path.{_≡_, refl, sym, ap, _∙_, subst}
 use mathlib.Core.Logic.{_⊎_, inl, inr}
 use mathlib.Core.Bool.{Bool, true, false, not, cond}
 use Prim.Native.Nat.{ℕ, suc, _+_, _-_, _*_, _/_, _%_, _^_, _≤_, _<_, min}
-use native.Mathlib.Nat.{le-suc, le-refl, lt-of-mul-lt-mul-right, le-trans, le-of-eq, le-of-lt, lt-of-lt-of-le, lt-of-le-of-lt, eq-or-lt-of-le, zero-lt-suc, zero-add, add-zero, mul-comm, mul-assoc, mul-le-mul-right, add-mod-left, mod-eq-of-lt, mul-add-mod-self-left, le-add-right, pow-succ', suc-mul}
+use native.Mathlib.Nat.{le-suc, le-refl, lt-of-mul-lt-mul-right, le-trans, le-of-eq, le-of-lt, lt-of-lt-of-le, lt-of-le-of-lt, eq-or-lt-of-le, zero-lt-suc, zero-add, add-zero, mul-comm, mul-assoc, mul-le-mul-right, add-mod-left, mod-eq-of-lt, mul-add-mod-self-left, le-add-right, pow-succ', suc-mul, ne-of-lt, min-eq-left, min-eq-right}
 use native.Mathlib.Omega.{arith}
 use lib.Dec.{T, ltb, leb, eqb, ltb→lt, lt→ltb, nltb→le, le→leb, eqb→eq, not-T}
 use lib.Arith.{digits-lt, digits-div, digits-mod, lt→nleb, le→nltb}
@@ -40,10 +40,7 @@ fields f false x t X H =
     (digits-mod x H)
 
 lt→neqb : (a b : ℕ) → a < b → T (not (eqb a b))
-lt→neqb a b h = not-T (eqb a b) (λ t. clash a b h (eqb→eq a b t))
-  where
-    clash : (a b : ℕ) → a < b → a ≡ b → ⊥
-    clash a b h e = omega arith
+lt→neqb a b h = not-T (eqb a b) (λ t. ne-of-lt h (eqb→eq a b t))
 
 pub field-zero : (f : Format) (s : Bool) (t : ℕ) → ofFields f s 0 t ≡ odd (prec f) s t 0 (low f)
 unfolding ofFields
@@ -198,15 +195,9 @@ below-top f s q k h c = go (ltb P Q) (ltb→lt P Q) (nltb→le P Q)
     Q : ℕ
     Q = ones f * hid f
 
-    left : (a b : ℕ) → a < b → min a b ≡ a
-    left a b h = omega arith
-
-    right : (a b : ℕ) → b ≤ a → min a b ≡ b
-    right a b h = omega arith
-
     go : (d : Bool) → (T d → P < Q) → (T (not d) → Q ≤ P) → ofBits f (cond s (top f) 0 + min P Q) ≡ units f s q k
-    go true a z = ap (λ (x : ℕ). ofBits f (cond s (top f) 0 + x)) (left P Q (a tt)) ∙ in-range f s q k h c (a tt)
-    go false a z = ap (λ (x : ℕ). ofBits f (cond s (top f) 0 + x)) (right P Q (z tt)) ∙ past f s q k h c (z tt)
+    go true a z = ap (λ (x : ℕ). ofBits f (cond s (top f) 0 + x)) (min-eq-left (le-of-lt (a tt))) ∙ in-range f s q k h c (a tt)
+    go false a z = ap (λ (x : ℕ). ofBits f (cond s (top f) 0 + x)) (min-eq-right (z tt)) ∙ past f s q k h c (z tt)
 
 pub units-bits : (f : Format) (s : Bool) (q k : ℕ) → q ≤ 2 ^ prec f → (k ≡ 0) ⊎ (hid f ≤ q) → ofBits f (cond s (top f) 0 + min (k * hid f + q) (ones f * hid f)) ≡ units f s q k
 units-bits f s q k h c = go (eq-or-lt-of-le h)

@@ -7,7 +7,7 @@ use native.Mathlib.Nat.{le-trans, le-of-eq, lt-of-not-le, not-le-of-lt, add-comm
 use native.Mathlib.Omega.{arith}
 use lib.Dec.{T, ltb, leb, eqb, ltb→lt, lt→ltb, leb→le, le→leb, eqb→eq}
 use lib.Ieee.{Float, nan, inf, fin, up, down, le, lt, below, level}
-use lib.Ieee.Fits.{eq→eqb}
+use lib.Ieee.Fits.{eq→eqb, and-i, and-l, and-r}
 use lib.Ieee.Scale.{finite}
 use lib.Ieee.Positive.{den, den-pos}
 use Rattle.floats.proofs.Value.{same-test, or-le}
@@ -33,26 +33,10 @@ lt-go true false a c b d = ap (λ (z : ℕ). ltb 0 z) (add-comm (a * d) (b * c))
 lt-go true true a c b d = sym (ap (λ (z : ℕ). ltb (z + b * c) (0 * c + a * d)) (zero-mul d) ∙ ap (λ (z : ℕ). ltb z (0 * c + a * d)) (zero-add (b * c)) ∙ ap (λ (z : ℕ). ltb (b * c) (z + a * d)) (zero-mul c) ∙ ap (λ (z : ℕ). ltb (b * c) z) (zero-add (a * d)))
 
 eq-go : (s t : Bool) (a c b d : ℕ) → level s (a * d) t (b * c) ≡ (eqb (cond s 0 a * d + cond t b 0 * c) (cond t 0 b * c + cond s a 0 * d) && true)
-eq-go s t a c b d = same-test (level s (a * d) t (b * c)) (eqb (cond s 0 a * d + cond t b 0 * c) (cond t 0 b * c + cond s a 0 * d) && true) (λ u. and-true (to s t u)) (λ u. from s t (eqb→eq _ _ (drop-true (eqb (cond s 0 a * d + cond t b 0 * c) (cond t 0 b * c + cond s a 0 * d)) u)))
+eq-go s t a c b d = same-test (level s (a * d) t (b * c)) (eqb (cond s 0 a * d + cond t b 0 * c) (cond t 0 b * c + cond s a 0 * d) && true) (λ u. and-true (to s t u)) (λ u. from s t (eqb→eq _ _ (and-l (eqb (cond s 0 a * d + cond t b 0 * c) (cond t 0 b * c + cond s a 0 * d)) true u)))
   where
     and-true : {x y : ℕ} → x ≡ y → T (eqb x y && true)
-    and-true {x} {y} e = both (eqb x y) (eq→eqb e)
-      where
-        both : (b : Bool) → T b → T (b && true)
-        both true t = tt
-        both false t = t
-
-    drop-true : (b : Bool) → T (b && true) → T b
-    drop-true true t = tt
-    drop-true false t = t
-
-    first : (x y : Bool) → T (x && y) → T x
-    first true y t = tt
-    first false y t = t
-
-    second : (x y : Bool) → T (x && y) → T y
-    second true y t = t
-    second false y t = absurd t
+    and-true {x} {y} e = and-i (eqb x y) true (eq→eqb e) tt
 
     z : (x k : ℕ) → x + 0 * k ≡ x
     z x k = ap (λ (w : ℕ). x + w) (zero-mul k) ∙ add-zero x
@@ -66,27 +50,24 @@ eq-go s t a c b d = same-test (level s (a * d) t (b * c)) (eqb (cond s 0 a * d +
     zz : (c d : ℕ) → 0 * c + 0 * d ≡ 0
     zz c d = z (0 * c) d ∙ zero-mul c
 
-    level-same : (x y : ℕ) → x ≡ y → T (eqb x y && true)
-    level-same x y e = and-true e
-
     level-zero : (x y : ℕ) → x ≡ 0 → y ≡ 0 → T (eqb x y && (false || eqb x 0))
     level-zero x y p q = subst (λ (k : ℕ). T (eqb k y && (false || eqb k 0))) (sym p) (subst (λ (k : ℕ). T (eqb 0 k && (false || eqb 0 0))) (sym q) tt)
 
     to : (s t : Bool) → T (level s (a * d) t (b * c)) → cond s 0 a * d + cond t b 0 * c ≡ cond t 0 b * c + cond s a 0 * d
-    to false false u = z (a * d) c ∙ eqb→eq (a * d) (b * c) (first (eqb (a * d) (b * c)) true u) ∙ sym (z (b * c) d)
-    to true true u = z' (b * c) d ∙ sym (eqb→eq (a * d) (b * c) (first (eqb (a * d) (b * c)) true u)) ∙ sym (z' (a * d) c)
+    to false false u = z (a * d) c ∙ eqb→eq (a * d) (b * c) (and-l (eqb (a * d) (b * c)) true u) ∙ sym (z (b * c) d)
+    to true true u = z' (b * c) d ∙ sym (eqb→eq (a * d) (b * c) (and-l (eqb (a * d) (b * c)) true u)) ∙ sym (z' (a * d) c)
     to false true u =
-        let p = eqb→eq (a * d) (b * c) (first (eqb (a * d) (b * c)) (eqb (a * d) 0) u) in
-        let q = eqb→eq (a * d) 0 (second (eqb (a * d) (b * c)) (eqb (a * d) 0) u) in
+        let p = eqb→eq (a * d) (b * c) (and-l (eqb (a * d) (b * c)) (eqb (a * d) 0) u) in
+        let q = eqb→eq (a * d) 0 (and-r (eqb (a * d) (b * c)) (eqb (a * d) 0) u) in
         ap (λ (w : ℕ). w + b * c) q ∙ ap (λ (w : ℕ). 0 + w) (sym p ∙ q) ∙ sym (zz c d)
     to true false u =
-        let p = eqb→eq (a * d) (b * c) (first (eqb (a * d) (b * c)) (eqb (a * d) 0) u) in
-        let q = eqb→eq (a * d) 0 (second (eqb (a * d) (b * c)) (eqb (a * d) 0) u) in
+        let p = eqb→eq (a * d) (b * c) (and-l (eqb (a * d) (b * c)) (eqb (a * d) 0) u) in
+        let q = eqb→eq (a * d) 0 (and-r (eqb (a * d) (b * c)) (eqb (a * d) 0) u) in
         zz d c ∙ sym (ap (λ (w : ℕ). w + a * d) (sym p ∙ q) ∙ ap (λ (w : ℕ). 0 + w) q)
 
     from : (s t : Bool) → cond s 0 a * d + cond t b 0 * c ≡ cond t 0 b * c + cond s a 0 * d → T (level s (a * d) t (b * c))
-    from false false e = level-same (a * d) (b * c) (sym (z (a * d) c) ∙ e ∙ z (b * c) d)
-    from true true e = level-same (a * d) (b * c) (sym (sym (z' (b * c) d) ∙ e ∙ z' (a * d) c))
+    from false false e = and-true (sym (z (a * d) c) ∙ e ∙ z (b * c) d)
+    from true true e = and-true (sym (sym (z' (b * c) d) ∙ e ∙ z' (a * d) c))
     from false true e = let n = none (a * d) (b * c) (e ∙ zz c d) in level-zero (a * d) (b * c) (n .0) (n .1)
     from true false e = let n = none (b * c) (a * d) (sym e ∙ zz d c) in level-zero (a * d) (b * c) (n .1) (n .0)
 
@@ -147,9 +128,6 @@ pub lt-le-trans-finite : (x y z : Float) → T (finite x) → T (finite y) → T
 lt-le-trans-finite x y z p q r h k =
     test (ltb (lhs x z) (rhs x z)) (lt x z) (sym (lt-nat x z p r)) (lt→ltb (lhs x z) (rhs x z) (lt-of-not-le (λ g. contra g)))
   where
-    swap : (x y : Float) → lhs y x ≡ rhs x y
-    swap x y = refl
-
     contra : rhs x z ≤ lhs x z → ⊥
     contra g =
         not-le-of-lt (ltb→lt (lhs x y) (rhs x y) (test (lt x y) (ltb (lhs x y) (rhs x y)) (lt-nat x y p q) h))

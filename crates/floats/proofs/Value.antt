@@ -14,6 +14,7 @@ use lib.Ieee.Exact.{HasValue}
 use lib.Ieee.Scale.{round-same}
 use lib.Ieee.Positive.{first-pos}
 use lib.Ieee.Bits.{cond-no}
+use Rattle.lists.proofs.BoolLaws.{or-first}
 
 pub same-test : (a b : Bool) → (T a → T b) → (T b → T a) → a ≡ b
 same-test true true p q = refl
@@ -155,10 +156,6 @@ or-le a b = same-test (ltb a b || (eqb a b && true)) (leb a b) (λ t. le→leb a
     one false true p q t = le-of-eq (q tt)
     one false false p q t = absurd t
 
-    left-or : (x y : Bool) → T x → T (x || y)
-    left-or true y t = tt
-    left-or false y t = absurd t
-
     right-or : (x y : Bool) → T y → T (x || (y && true))
     right-or true y t = tt
     right-or false true t = tt
@@ -166,4 +163,4 @@ or-le a b = same-test (ltb a b || (eqb a b && true)) (leb a b) (λ t. le→leb a
 
     two : (a ≡ b) ⊎ (a < b) → T (ltb a b || (eqb a b && true))
     two (inl e) = right-or (ltb a b) (eqb a b) (eq→eqb e)
-    two (inr l) = left-or (ltb a b) (eqb a b && true) (lt→ltb a b l)
+    two (inr l) = or-first (ltb a b) (eqb a b && true) (lt→ltb a b l)

@@ -3,9 +3,9 @@
 use mathlib.Core.Path.{_≡_, refl, sym, ap, _∙_, subst}
 use mathlib.Core.Bool.{Bool, true, false, not, _&&_, _||_, cond, true≢false}
 use Prim.Native.Nat.{ℕ, zero, suc, _+_, _-_, _*_, _^_, _≤_, _<_}
-use native.Mathlib.Nat.{le-trans, le-of-eq, le-of-lt, zero-lt-suc, mul-one, mul-comm, mul-assoc, mul-right-comm, add-mul, mul-le-mul-right, le-of-mul-le-mul-right, mul-pos}
+use native.Mathlib.Nat.{le-trans, le-of-eq, zero-lt-suc, mul-one, mul-comm, mul-assoc, mul-right-comm, add-mul, mul-le-mul-right, le-of-mul-le-mul-right, mul-pos}
 use native.Mathlib.Omega.{arith}
-use lib.Dec.{T, ltb, eqb, ltb→lt, eqb→eq}
+use lib.Dec.{T, ltb, eqb, leb→le}
 use lib.Arith.{le→nltb}
 use lib.Ieee.{Float, nan, inf, fin, Format, binary64, prec, emax, low, up, down, odd, units, round, sum, add, le}
 use lib.Ieee.Fits.{down-pos, round-is}
@@ -14,7 +14,7 @@ use lib.Ieee.Back.{round-whole}
 use lib.Ieee.Order.{round-mono}
 use lib.Ieee.Positive.{num, den, den-pos}
 use lib.Ieee.Bits.{cond-no}
-use Rattle.floats.proofs.Value.{add-values, like-signs}
+use Rattle.floats.proofs.Value.{add-values, like-signs, or-le}
 use Rattle.floats.specs.Within.{Within}
 
 pub within-value : (x : Float) (n : ℕ) → Within x n → HasValue x false (num x) (den x) × (num x ≤ n * den x)
@@ -47,12 +47,7 @@ round-unsigned f a c = subst (λ (x : Float). T (unsigned x)) (sym (round-is f f
 
 -- ---- the order against a whole number
 lt-or-eq : (a b : ℕ) → T (ltb a b || (eqb a b && true)) → a ≤ b
-lt-or-eq a b t = go (ltb a b) (eqb a b) (ltb→lt a b) (eqb→eq a b) t
-  where
-    go : (x y : Bool) → (T x → a < b) → (T y → a ≡ b) → T (x || (y && true)) → a ≤ b
-    go true y p q t = le-of-lt (p tt)
-    go false true p q t = le-of-eq (q tt)
-    go false false p q t = absurd t
+lt-or-eq a b t = leb→le a b (subst T (or-le a b) t)
 
 pub below-whole : (x y : Float) (n : ℕ) → T (unsigned x) → HasValue y false n 1 → T (le x y) → Within x n
 unfolding le

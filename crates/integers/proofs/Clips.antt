@@ -1,11 +1,10 @@
--- The clip, by the two tests that code makes. Cited by the 8-bit clip and by the u16 pass. Assumes nothing.
-use mathlib.Core.Path.{_≡_, refl, sym, ap, _∙_}
-use mathlib.Core.Bool.{Bool, true, false}
-use Prim.Native.Nat.{ℕ, suc, _+_, _≤_, _<_, min}
+-- The clip, by the two tests that code makes. Cited by `clip8`. Assumes nothing.
+use mathlib.Core.Path.{_≡_, refl, sym}
+use mathlib.Core.Bool.{true, false}
+use Prim.Native.Nat.{ℕ, _≤_, _<_}
 use native.Mathlib.Omega.{arith}
-use lib.Dec.{ltb}
-use lib.IntN.{ℤ, pos, negsuc, natAbs}
-use lib.Signed.{ltZ, nonNeg}
+use lib.IntN.{ℤ, pos, negsuc}
+use lib.Signed.{ltZ}
 use borrow.Author.Tests.{ltb-true, ltb-false}
 use Rattle.lists.proofs.BoolLaws.{never}
 use Rattle.integers.specs.Sums.{clipped}
@@ -22,9 +21,3 @@ pub clipped-high : (M m : ℕ) (z : ℤ) → M ≤ m → ltZ (pos m) z ≡ true 
 unfolding clipped
 clipped-high M m (pos n) h k = let l : m < n = ltb-true m n k in omega arith
 clipped-high M m (negsuc n) h k = never (sym k)
-
--- neither below 0 nor above M: itself
-pub clipped-same : (M : ℕ) (z : ℤ) → ltZ z (pos 0) ≡ false → ltZ (pos M) z ≡ false → z ≡ pos (clipped M z)
-unfolding clipped
-clipped-same M (pos n) h k = let l : n ≤ M = ltb-false M n k in ap pos (omega arith)
-clipped-same M (negsuc n) h k = never h

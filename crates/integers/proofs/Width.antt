@@ -1,6 +1,6 @@
 -- x / (2^n - 1) to the nearest whole number without a division: with t = x + 2^(n-1) it is (t + t / 2^n) / 2^n. Cited at n = 8, later at 16.
 -- With B = 2^n, W = B - 1 and q = t / B the result is q or q + 1, as t % B + q is below B or not, and 2 x - 2 W q is 2 (t % B + q) - B. Assumes nothing.
-use mathlib.Core.Path.{_≡_, refl, sym, ap, _∙_}
+use mathlib.Core.Path.{_≡_, sym, ap}
 use Prim.Native.Nat.{ℕ, zero, suc, _+_, _-_, _*_, _/_, _^_, _≤_, _<_}
 use native.Mathlib.Nat.{add-mul, mul-add, mul-comm, mul-left-comm, mul-one, one-mul, div-mul-le-self, lt-div-mul-add, div-eq-of-lt-le, div-lt-iff-lt-mul, lt-of-mul-lt-mul-right}
 use native.Mathlib.Omega.{arith}

@@ -5,4 +5,5 @@ pub mod TurnLaws
 pub mod TextLaws
 pub mod StoreLaws
 pub mod BoolLaws
+pub mod SizeLaws
 pub mod Sure

@@ -1,4 +1,4 @@
--- The law of `turns`: what a loop that folds in line order asks for. Assumes nothing.
+-- The law of `turns`: what a loop that folds in line order asks for. Cited by the builder's total and by the numbers of an edge. Assumes nothing.
 use mathlib.Core.Path.{_≡_}
 use Prim.Native.Nat.{ℕ, _+_}
 use native.Mathlib.Numerals.{add-one}

@@ -1,7 +1,7 @@
 -- A double that a type of h bits and a sign holds, cut to an integer: the library's truncation to 64 bits takes it, and gives what the cast to the type
 -- itself would. Cited by the slots of both stores. Assumes nothing.
 use mathlib.Core.Path.{_≡_, refl, sym, ap, subst}
-use mathlib.Core.Bool.{Bool, true, false, not, _&&_, _||_}
+use mathlib.Core.Bool.{Bool, true, false, not, _&&_}
 use Prim.Native.Nat.{ℕ, suc, _+_, _-_, _*_, _/_, _^_, _≤_, _<_, min}
 use native.Mathlib.Nat.{le-of-suc-le-suc, le-of-eq, lt-of-lt-of-le, lt-of-le-of-lt, mul-one, mul-pos, mul-lt-mul-of-pos-right, suc-mul, zero-lt-suc, div-lt-iff-lt-mul, le-add-right, le-add-left}
 use native.Mathlib.Omega.{arith}
@@ -11,7 +11,7 @@ use lib.Pow.{pow-lt, pow-pos, pow-mono}
 use lib.Ieee.{Float, nan, inf, fin, lt, le, neg, toSigned, up, down}
 use lib.Ieee.Exact.{HasValue}
 use lib.Ieee.Fits.{down-pos}
-use Rattle.lists.proofs.BoolLaws.{never}
+use Rattle.lists.proofs.BoolLaws.{never, or-first}
 use Rattle.floats.proofs.Value.{lt-values, neg-value}
 use Rattle.floats.proofs.Integers.{whole-val}
 use Rattle.normalizer.specs.Precision.{power}
@@ -27,10 +27,6 @@ pub in-type : (u b : Bool) → u && not b ≡ false → u ≡ true → b ≡ tru
 in-type true true h e = refl
 in-type true false h e = never h
 in-type false b h e = never (sym e)
-
-or-l : (a b : Bool) → T a → T (a || b)
-or-l true b t = tt
-or-l false b t = absurd t
 
 -- an infinity beside a number
 below-all : (y : Float) (t : Bool) (b d : ℕ) → HasValue y t b d → lt (inf true) y ≡ true
@@ -87,7 +83,7 @@ module _ (h : ℕ) (small : h ≤ 53) where
   negative m e l =
       let q : m * up e / down e ≤ 2 ^ h = div-le (m * up e) (down e) (2 ^ h) (down-pos e) l in
       record {
-        low = or-l (ltb (m * up e * 1) (1 * 2 ^ 63 * down e)) _ (lt→ltb (m * up e * 1) (1 * 2 ^ 63 * down e) (wide (m * up e) (down e) (down-pos e) l));
+        low = or-first (ltb (m * up e * 1) (1 * 2 ^ 63 * down e)) _ (lt→ltb (m * up e * 1) (1 * 2 ^ 63 * down e) (wide (m * up e) (down e) (down-pos e) l));
         high = lt→ltb 0 (m * up e * 1 + 1 * 2 ^ 63 * down e) (lt-of-lt-of-le (mul-pos (pow-pos 63) (down-pos e)) (le-add-left (1 * 2 ^ 63 * down e) (m * up e * 1)));
         same = ap (λ (n : ℕ). negℤ (pos n)) (caps (m * up e / down e) (2 ^ 63) (2 ^ h) (omega (arith, wider)) q);
       }
@@ -97,7 +93,7 @@ module _ (h : ℕ) (small : h ≤ 53) where
   positive m e l =
       let q : m * up e / down e < 2 ^ h = div-lt-iff-lt-mul (down-pos e) .1 l in
       record {
-        low = or-l (ltb 0 (1 * 2 ^ 63 * down e + m * up e * 1)) _ (lt→ltb 0 (1 * 2 ^ 63 * down e + m * up e * 1) (lt-of-lt-of-le (mul-pos (pow-pos 63) (down-pos e)) (le-add-right (1 * 2 ^ 63 * down e) (m * up e * 1))));
+        low = or-first (ltb 0 (1 * 2 ^ 63 * down e + m * up e * 1)) _ (lt→ltb 0 (1 * 2 ^ 63 * down e + m * up e * 1) (lt-of-lt-of-le (mul-pos (pow-pos 63) (down-pos e)) (le-add-right (1 * 2 ^ 63 * down e) (m * up e * 1))));
         high = lt→ltb (m * up e * 1) (1 * 2 ^ 63 * down e) (wide (m * up e) (down e) (down-pos e) (omega arith));
         same = ap pos (caps (m * up e / down e) (2 ^ 63 - 1) (2 ^ h - 1) (omega (arith, wider)) (omega arith));
       }

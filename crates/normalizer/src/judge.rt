@@ -1,12 +1,11 @@
 // The judge of a set for either store.
 ghost use mathlib.Core.Path.{_≡_};
-ghost use mathlib.Core.Bool.{not};
 ghost use Prim.Native.Nat.{_<_, _≤_, _*_};
 ghost use lib.ListN.{length};
 ghost use Rattle.lists.specs.Tab.{any};
 ghost use Rattle.floats.specs.Doubles.{isFinite};
 ghost use Rattle.windows.specs.Set.{setOf};
-ghost use Rattle.normalizer.specs.Answer.{inUse, holds as holdsF, notFinite, leaves, badPrecision, normalizedOf};
+ghost use Rattle.normalizer.specs.Answer.{inUse, holds as holdsF, notFinite, badPrecision, normalizedOf};
 use crate::Normalized;
 use crate::precision::power;
 use crate::precision::precision;

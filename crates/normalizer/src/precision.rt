@@ -1,7 +1,6 @@
 // The search for a set's precision, and a weight at a precision.
 ghost use mathlib.Core.Path.{_≡_};
 ghost use Prim.Native.Nat.{_<_, _≤_};
-ghost use lib.Ieee.{le};
 ghost use Rattle.normalizer.specs.Precision.{power as powerF, larger as largerF, largest as largestF, scaled as scaledF, precision as precisionF, reaches};
 
 // The precision of the weights in a store of `bits` and `limit`.

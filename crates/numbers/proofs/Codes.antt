@@ -3,7 +3,7 @@
 use mathlib.Core.Path.{_≡_, refl, sym, ap, _∙_, subst}
 use mathlib.Core.Bool.{Bool, true, false, not, cond}
 use Prim.Native.Nat.{ℕ, suc, _+_, _-_, _*_, _/_, _%_, _^_, _≤_, _<_, zero-le, min, compare, Ordering}
-use native.Mathlib.Nat.{le-trans, le-of-eq, le-of-lt, lt-of-lt-of-le, lt-of-le-of-lt, zero-lt-suc, one-mul, mul-le-mul-left, mod-lt, mod-eq-of-lt, zero-add, add-comm, add-mod-left}
+use native.Mathlib.Nat.{le-trans, le-of-eq, le-of-lt, lt-of-lt-of-le, lt-of-le-of-lt, zero-lt-suc, one-mul, mul-le-mul-left, mod-lt, mod-eq-of-lt, zero-add, add-comm, add-mod-left, min-eq-left, min-eq-right}
 use native.Mathlib.Omega.{arith}
 use lib.Dec.{T, leb, le→leb, nleb→lt, lit≤, lit<}
 use lib.Arith.{lt→nleb}
@@ -14,7 +14,7 @@ use lib.Ieee.Nearest.{closest, div-mono}
 use lib.Ieee.Bits.{cond-no, nanBits-is}
 use Rattle.numbers.specs.Whole.{whole, narrow}
 use Rattle.numbers.specs.Inner.{narrowSize, narrowAt}
-use Rattle.numbers.proofs.NarrowLaws.{narrowSize-right}
+use Rattle.numbers.proofs.NarrowLaws.{narrowSize-right, wide-53}
 use Rattle.floats.proofs.Digits.{compare-lt, compare-eq, compare-gt}
 use Rattle.floats.proofs.Codes.{nan-code, no-nan-code, code-back, round-number}
 
@@ -64,12 +64,6 @@ cond-yes : (b : Bool) (x y : ℕ) → T b → cond b x y ≡ x
 cond-yes true x y t = refl
 cond-yes false x y t = absurd t
 
-left : (a b : ℕ) → a < b → min a b ≡ a
-left a b h = omega arith
-
-right : (a b : ℕ) → b ≤ a → min a b ≡ b
-right a b h = omega arith
-
 narrowSize-is : (p : ℕ) → narrowSize p ≡ narrowAt p (p / 2 ^ 52) (p % 2 ^ 52)
 unfolding narrowSize
 narrowSize-is p = refl
@@ -88,10 +82,10 @@ at-low p X t h =
     ∙ cond-no (leb 873 X) (closest (2 ^ 52 + t) (2 ^ (926 - X))) 0 (lt→nleb 873 X h)
 
 pub size-top : (p y : ℕ) → 897 ≤ p / 2 ^ 52 → y ≡ closest (p - 0x3800_0000_0000_0000) (2 ^ 29) → y < 0x7f80_0000 → y ≡ narrowSize p
-size-top p y h e l = sym (narrowSize-is p ∙ at-top p (p / 2 ^ 52) (p % 2 ^ 52) h ∙ ap (λ (z : ℕ). min z 0x7f80_0000) (sym e) ∙ left y 0x7f80_0000 l)
+size-top p y h e l = sym (narrowSize-is p ∙ at-top p (p / 2 ^ 52) (p % 2 ^ 52) h ∙ ap (λ (z : ℕ). min z 0x7f80_0000) (sym e) ∙ min-eq-left (le-of-lt l))
 
 pub size-over : (p y : ℕ) → 897 ≤ p / 2 ^ 52 → y ≡ closest (p - 0x3800_0000_0000_0000) (2 ^ 29) → 0x7f80_0000 ≤ y → 0x7f80_0000 ≡ narrowSize p
-size-over p y h e l = sym (narrowSize-is p ∙ at-top p (p / 2 ^ 52) (p % 2 ^ 52) h ∙ ap (λ (z : ℕ). min z 0x7f80_0000) (sym e) ∙ right y 0x7f80_0000 l)
+size-over p y h e l = sym (narrowSize-is p ∙ at-top p (p / 2 ^ 52) (p % 2 ^ 52) h ∙ ap (λ (z : ℕ). min z 0x7f80_0000) (sym e) ∙ min-eq-right l)
 
 pub size-mid : (p y : ℕ) → p / 2 ^ 52 < 897 → 873 ≤ p / 2 ^ 52 → y ≡ closest (2 ^ 52 + p % 2 ^ 52) (2 ^ (926 - p / 2 ^ 52)) → y ≡ narrowSize p
 size-mid p y h l e = e ∙ sym (narrowSize-is p ∙ at-mid p (p / 2 ^ 52) (p % 2 ^ 52) h l)
@@ -112,14 +106,11 @@ narrowAt-le p X t h = go (leb 897 X) (leb 873 X) (nleb→lt 897 X)
     under : (q : ℕ) → q < 2 ^ 24 → suc q ≤ 0x7f80_0000
     under q h = omega arith
 
-    wide : (t : ℕ) → t < 2 ^ 52 → 2 ^ 52 + t < 2 ^ 53
-    wide t h = omega arith
-
     go : (a b : Bool) → (T (not a) → X < 897) → cond a (min (closest (p - 0x3800_0000_0000_0000) (2 ^ 29)) 0x7f80_0000) (cond b (closest (2 ^ 52 + t) (2 ^ (926 - X))) 0) ≤ 0x7f80_0000
     go true b l = cap (closest (p - 0x3800_0000_0000_0000) (2 ^ 29)) 0x7f80_0000
     go false true l =
         le-trans (nearest-le ((2 ^ 52 + t) / 2 ^ (926 - X)) (compare ((2 ^ 52 + t) % 2 ^ (926 - X) * 2) (2 ^ (926 - X))))
-        (under ((2 ^ 52 + t) / 2 ^ (926 - X)) (shr-lt 24 (926 - X) (lt-of-lt-of-le (wide t h) (pow-mono (shifts X (l tt))))))
+        (under ((2 ^ 52 + t) / 2 ^ (926 - X)) (shr-lt 24 (926 - X) (lt-of-lt-of-le (wide-53 t h) (pow-mono (shifts X (l tt))))))
     go false false l = zero-le
 
 pub narrowSize-le : (p y : ℕ) → y ≡ narrowSize p → y ≤ 0x7f80_0000

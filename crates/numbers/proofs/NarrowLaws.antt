@@ -24,7 +24,7 @@ narrow-value nan s a c C p = absurd p
 narrow-value (inf r) s a c C p = absurd p
 narrow-value (fin r m e) s a c C p = ap (λ (z : Bool). round binary32 z (m * up e) (down e)) (p .0) ∙ round-same binary32 s (m * up e) (down e) a c (down-pos e) C (p .1)
 
-wide-53 : (t : ℕ) → t < 2 ^ 52 → 2 ^ 52 + t < 2 ^ 53
+pub wide-53 : (t : ℕ) → t < 2 ^ 52 → 2 ^ 52 + t < 2 ^ 53
 wide-53 t h = omega arith
 
 -- normal results, and those that overflow

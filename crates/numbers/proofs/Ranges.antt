@@ -3,10 +3,10 @@ use mathlib.Core.Path.{_≡_, refl, sym, ap, _∙_, subst}
 use mathlib.Core.Logic.{_⊎_, inl, inr}
 use mathlib.Core.Bool.{Bool, true, false, not, _&&_, cond, false≢true}
 use Prim.Native.Nat.{ℕ, zero, suc, _+_, _-_, _*_, _/_, _^_, _≤_, _<_, min}
-use native.Mathlib.Nat.{le-trans, le-of-eq, le-of-lt, lt-of-le-of-lt, zero-lt-suc, mul-one, zero-mul, mul-lt-mul-of-pos-right, div-lt-iff-lt-mul, zero-div}
+use native.Mathlib.Nat.{le-trans, le-of-eq, le-of-lt, lt-of-le-of-lt, mul-one, zero-mul, mul-lt-mul-of-pos-right, div-lt-iff-lt-mul, zero-div, min-eq-left, min-eq-right}
 use native.Mathlib.Omega.{arith}
 use lib.Dec.{T, ltb, leb, lt→ltb, leb→le, le→leb, nleb→lt, nltb→le, lit≤, lit<}
-use lib.Ieee.{Float, nan, inf, fin, Format, binary64, prec, up, down, round, sum, add, sub, mul, lt, odd, units, low, emax, ofBits, toUnsigned, inUnsigned, inFloat, ofInt}
+use lib.Ieee.{Float, nan, inf, fin, Format, binary64, prec, up, down, round, sum, add, sub, lt, odd, units, low, emax, ofBits, toUnsigned, inUnsigned, inFloat, ofInt}
 use lib.Ieee.Fits.{down-pos, round-is}
 use lib.Ieee.Back.{unsigned-back}
 use lib.Ieee.Positive.{num, den, den-pos}
@@ -14,10 +14,10 @@ use Rattle.numbers.specs.Whole.{raised, whole, floor, ceil}
 use Rattle.numbers.proofs.Sizes.{raised-le}
 use Rattle.floats.proofs.Value.{sub-values}
 use Rattle.floats.specs.Within.{Within}
-use Rattle.floats.proofs.Within.{within-value, within-add, round-within}
+use Rattle.floats.proofs.Within.{within-value, within-add}
 use Rattle.numbers.specs.Window.{start, stop}
 use Rattle.numbers.proofs.Window.{floor-cast}
-use Rattle.floats.proofs.Integers.{int, within-mul, within-sub}
+use Rattle.floats.proofs.Integers.{int, int-within, within-sub}
 
 -- ---- the casts are in range
 whole-in : (n : ℕ) → n < 2 ^ 32 → T (inUnsigned binary64 32 (round binary64 false n 1))
@@ -80,12 +80,9 @@ sub-sort x y A B X Y l = go (leb bp aq) (leb→le bp aq) (nleb→lt bp aq)
     opened : sub binary64 x y ≡ sum binary64 false aq true bp (den x * den y)
     opened = sub-values binary64 x y false false (num x) (den x) (num y) (den y) (den-pos x) (den-pos y) (within-value x A X .0) (within-value y B Y .0)
 
-    turned : (a b c : ℕ) → a < b → sum binary64 false a true b c ≡ round binary64 true (b - a) c
-    turned a b c h = less a b c h
-
     go : (t : Bool) → (T t → bp ≤ aq) → (T (not t) → aq < bp) → T (minusSign (sub binary64 x y)) ⊎ Within (sub binary64 x y) A
     go true p q = inr (within-sub x y A B X Y l (p tt))
-    go false p q = inl (subst (λ (z : Float). T (minusSign z)) (sym (opened ∙ turned aq bp (den x * den y) (q tt))) (round-minus binary64 (bp - aq) (den x * den y)))
+    go false p q = inl (subst (λ (z : Float). T (minusSign z)) (sym (opened ∙ less aq bp (den x * den y) (q tt))) (round-minus binary64 (bp - aq) (den x * den y)))
 
 -- ---- the casts
 minus-cast : (x : Float) → T (minusSign x) → toUnsigned 32 x ≡ 0
@@ -132,21 +129,10 @@ floor-some x n (inr w) h = w
 -- ---- what the builder computes stays small
 -- (i + 0.5) is at most i + 1
 pub half-within : (i : ℕ) → i ≤ 8192 → Within (add binary64 (int i) (ofBits binary64 0x3fe0_0000_0000_0000)) (i + 1)
-half-within i h = within-add (int i) (ofBits binary64 0x3fe0_0000_0000_0000) i 1 (round-within binary64 i 1 i (zero-lt-suc 0) (le-trans h (lit≤ tt)) (le-of-eq (sym (mul-one i)))) (unfold ofBits in lit≤ tt) (le-trans (step i h) (lit≤ tt))
+half-within i h = within-add (int i) (ofBits binary64 0x3fe0_0000_0000_0000) i 1 (int-within i (le-trans h (lit≤ tt))) (unfold ofBits in lit≤ tt) (le-trans (step i h) (lit≤ tt))
   where
     step : (i : ℕ) → i ≤ 8192 → i + 1 ≤ 8193
     step i h = omega arith
-
--- centre = near + (i + 0.5) * scale
-pub centre-within : (near scale : Float) (i : ℕ) → Within near 8192 → Within scale 8192 → i < 8192
-    → Within (add binary64 near (mul binary64 (add binary64 (int i) (ofBits binary64 0x3fe0_0000_0000_0000)) scale)) (8192 + (i + 1) * 8192)
-centre-within near scale i N S h = within-add near _ 8192 ((i + 1) * 8192) N (within-mul _ scale (i + 1) 8192 (half-within i (le-of-lt h)) S (le-trans (a i h) (lit≤ tt))) (le-trans (b i h) (lit≤ tt))
-  where
-    a : (i : ℕ) → i < 8192 → (i + 1) * 8192 ≤ 2 ^ 26
-    a i h = omega arith
-
-    b : (i : ℕ) → i < 8192 → 8192 + (i + 1) * 8192 ≤ 2 ^ 27
-    b i h = omega arith
 
 -- ---- the functions' own steps
 pub start-is : (c r : Float) → start c r ≡ toUnsigned 32 (floor binary64 (sub binary64 c r))
@@ -161,14 +147,8 @@ in-ceil c r y C R e = subst (λ (z : Float). T (inUnsigned binary64 32 z)) (sym 
 
 pub stop-low : (side : ℕ) (c r y : Float) → y ≡ ceil binary64 (add binary64 c r) → toUnsigned 32 y < side → toUnsigned 32 y ≡ stop side c r
 unfolding stop
-stop-low side c r y e h = sym (ap (λ (z : Float). min (toUnsigned 32 z) side) (sym e) ∙ left (toUnsigned 32 y) side h)
-  where
-    left : (a b : ℕ) → a < b → min a b ≡ a
-    left a b h = omega arith
+stop-low side c r y e h = sym (ap (λ (z : Float). min (toUnsigned 32 z) side) (sym e) ∙ min-eq-left (le-of-lt h))
 
 pub stop-high : (side : ℕ) (c r y : Float) → y ≡ ceil binary64 (add binary64 c r) → side ≤ toUnsigned 32 y → side ≡ stop side c r
 unfolding stop
-stop-high side c r y e h = sym (ap (λ (z : Float). min (toUnsigned 32 z) side) (sym e) ∙ right (toUnsigned 32 y) side h)
-  where
-    right : (a b : ℕ) → b ≤ a → min a b ≡ b
-    right a b h = omega arith
+stop-high side c r y e h = sym (ap (λ (z : Float). min (toUnsigned 32 z) side) (sym e) ∙ min-eq-right h)

@@ -19,9 +19,6 @@ use Rattle.floats.proofs.Laws.{fits-digits, round-fit}
 use Rattle.floats.proofs.Value.{lt-values}
 use Rattle.floats.proofs.Integers.{whole-val, half-val}
 
-twice-pos : (c : ℕ) → 0 < c → 0 < 2 * c
-twice-pos c h = omega arith
-
 -- ---- the three sizes by trial steps, a / c with q the whole part
 module _ (a c : ℕ) (C : 0 < c) where
   q-lo : a / c * c ≤ a
@@ -75,7 +72,7 @@ module _ (a c : ℕ) (C : 0 < c) where
   half-le n h =
       let s : suc n * (2 * c) ≡ n * (2 * c) + 2 * c = suc-mul n (2 * c) in
       let u = half-l n in
-      le-of-suc-le-suc (div-lt-iff-lt-mul (twice-pos c C) .1 (omega arith))
+      le-of-suc-le-suc (div-lt-iff-lt-mul (mul-pos (zero-lt-suc 1) C) .1 (omega arith))
 
 -- ---- values that are `small`, and what the code finds of them
 small-value : (x : Float) → T (small x) → HasValue x false (num x) (den x) × (num x < 2 ^ 52 * den x) × (0 < den x)

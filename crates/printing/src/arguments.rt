@@ -19,6 +19,7 @@ fn is(word: &[u8], name: &[u8]) -> bool {
     fields::is(word, w, 0, name)
 }
 
+// A word as a filter's name.
 fn filter_of(word: &[u8]) -> Name {
     if is(word, b"box") {
         return Name::Is(FilterType::Box);
@@ -35,6 +36,7 @@ fn filter_of(word: &[u8]) -> Name {
     Name::Unknown
 }
 
+// A word as a whole number.
 fn whole_of(word: &[u8]) -> Whole {
     let w = asking::split(word);
     if w.count != 1 {

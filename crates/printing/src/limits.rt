@@ -3,6 +3,7 @@ use crate::streams::err;
 use crate::streams::out;
 use refusal::Refusal;
 
+// Too few of what the sheet needs.
 fn too_large(what: &[u8], limit: &[u8]) {
     out(b"toolarge=");
     out(what);

@@ -38,17 +38,18 @@ pub(crate) fn print(asked: Asked) {
     build(asked, &mut weights, &mut starts, &mut sizes);
 }
 
+// Builds the set, in lists that stand apart from this.
 fn build(asked: Asked, weights: &mut [f64], starts: &mut [u32], sizes: &mut [u32]) {
     let built = coefficients::build(request(asked), weights, starts, sizes);
     match built {
-        Built::Done(window) => normalise(asked, window, weights, starts, sizes),
+        Built::Done(window) => count_slots(asked, window, weights, starts, sizes),
         Built::Blank(line) => blank(line.0),
         Built::Refused(refusal) => refused(refusal, asked),
     }
 }
 
-// How many slots the set has.
-fn normalise(asked: Asked, window: u32, weights: &[f64], starts: &[u32], sizes: &[u32]) {
+// How many slots the set has: window size x output side.
+fn count_slots(asked: Asked, window: u32, weights: &[f64], starts: &[u32], sizes: &[u32]) {
     let n = asked.output as usize;
     let w = window as usize;
     if 8192 < n {

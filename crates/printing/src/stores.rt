@@ -83,6 +83,7 @@ fn show(asked: Asked, written: Sheet, text: &[u8]) {
     }
 }
 
+// The first bytes of the list, which are the text.
 fn print_text(length: u64, text: &[u8]) {
     let a: usize = 0;
     let n = length as usize;

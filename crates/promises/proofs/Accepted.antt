@@ -1,6 +1,6 @@
 -- What answer No. 0 means: no refusal has it, so an answer whose number is 0 is the case that is done, with the values beside it. Assumes nothing.
 use mathlib.Core.Path.{_≡_, refl}
-use Prim.Native.Nat.{ℕ, _<_}
+use Prim.Native.Nat.{_<_}
 use native.Mathlib.Omega.{arith}
 use Rattle.refusal.specs.declared.Refusal.{Refusal}
 use Rattle.refusal.specs.declared.Refusal.the-variants.{BadSide, NotFinite, NegativeExtent, StartOutside, EndOutside, NoScale, TooFewSlots, BlankWindow, WeightOutside, DoesNotFit, NoRoom, SampleOutside}

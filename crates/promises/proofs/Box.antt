@@ -4,7 +4,7 @@
 use mathlib.Core.Path.{_≡_, refl, sym, ap, _∙_, subst}
 use mathlib.Core.Bool.{true, false}
 use Prim.Native.Nat.{ℕ, zero, suc, _+_, _-_, _*_, _^_, _≤_, _<_, zero-le}
-use native.Mathlib.Nat.{le-refl, le-trans, le-of-eq, lt-of-lt-of-le, lt-of-le-of-lt, zero-lt-suc, mul-one, one-mul, zero-mul, mul-mul-mul-comm, mul-comm, mul-assoc, mul-left-comm, mul-right-comm, add-mul, mul-add, mul-le-mul-right, mul-le-mul-left, mul-lt-mul-of-pos-right, mul-suc, lt-of-mul-lt-mul-left, le-of-suc-le-suc, mul-pos, div-mul-le-self, lt-div-mul-add}
+use native.Mathlib.Nat.{le-trans, le-of-eq, lt-of-lt-of-le, lt-of-le-of-lt, zero-lt-suc, mul-one, one-mul, zero-mul, mul-mul-mul-comm, mul-comm, mul-assoc, mul-left-comm, mul-right-comm, add-mul, mul-add, mul-le-mul-right, mul-le-mul-left, mul-lt-mul-of-pos-right, mul-suc, lt-of-mul-lt-mul-left, le-of-suc-le-suc, mul-pos, div-mul-le-self, lt-div-mul-add}
 use native.Mathlib.Omega.{arith}
 use lib.Dec.{T, lit≤, lit<}
 use lib.Pow.{pow-pos, pow-mono}
@@ -18,18 +18,14 @@ use lib.Ieee.Positive.{num, den, den-pos, value→cross}
 use Rattle.integers.specs.Nearest.{nearest}
 use Rattle.floats.specs.Within.{Within}
 use Rattle.floats.proofs.Value.{mul-values, div-values}
-use Rattle.floats.proofs.Within.{round-within}
 use Rattle.floats.proofs.AtMost.{finite-at, within-at}
-use Rattle.floats.proofs.Integers.{int, int-value, within-div-int}
+use Rattle.floats.proofs.Integers.{int, int-value, within-div-int, int-within}
 use Rattle.floats.proofs.Error.{round-error, pow-exact}
 
 -- ---- n weights of G / L, L = 2 ^ 1074, each as K = G * 2 ^ P / L to the nearest whole number: their sum is within n / 2 of 2 ^ P
 half-near : (A L : ℕ) → 0 < L → (2 * (nearest A L * L) ≤ 2 * A + L) × (2 * A ≤ 2 * (nearest A L * L) + L)
-half-near A L h = go A L (nearest A L * (2 * L)) (nearest A L * L) (mul-left-comm (nearest A L) 2 L) (div-mul-le-self (2 * A + L) (2 * L)) (lt-div-mul-add {a = 2 * A + L} (twice L h))
+half-near A L h = go A L (nearest A L * (2 * L)) (nearest A L * L) (mul-left-comm (nearest A L) 2 L) (div-mul-le-self (2 * A + L) (2 * L)) (lt-div-mul-add {a = 2 * A + L} (mul-pos (zero-lt-suc 1) h))
   where
-    twice : (L : ℕ) → 0 < L → 0 < 2 * L
-    twice L h = omega arith
-
     go : (A L X Y : ℕ) → X ≡ 2 * Y → X ≤ 2 * A + L → 2 * A + L < X + 2 * L → (2 * Y ≤ 2 * A + L) × (2 * A ≤ 2 * Y + L)
     go A L X Y e h l = omega arith
 
@@ -132,11 +128,8 @@ mul-pow f (fin false (suc m) e) t n P k W v h =
     (pow-exact f false m e P k (lt-of-le-of-lt (mul-le-mul-right (2 ^ P) W) (lt-of-le-of-lt (le-of-eq (mul-right-comm n (down e) (2 ^ P))) (mul-lt-mul-of-pos-right h (down-pos e)))))
 
 half-same : (a c b d : ℕ) → 0 < c → 0 < d → a * d ≡ b * c → nearest a c ≡ nearest b d
-half-same a c b d C D e = div-same (2 * a + c) (2 * c) (2 * b + d) (2 * d) (twice c C) (twice d D) (go a c b d e)
+half-same a c b d C D e = div-same (2 * a + c) (2 * c) (2 * b + d) (2 * d) (mul-pos (zero-lt-suc 1) C) (mul-pos (zero-lt-suc 1) D) (go a c b d e)
   where
-    twice : (c : ℕ) → 0 < c → 0 < 2 * c
-    twice c h = omega arith
-
     go : (a c b d : ℕ) → a * d ≡ b * c → (2 * a + c) * (2 * d) ≡ (2 * b + d) * (2 * c)
     go a c b d e =
         let x : (2 * a + c) * (2 * d) ≡ 2 * a * (2 * d) + c * (2 * d) = add-mul (2 * a) c (2 * d) in
@@ -163,7 +156,7 @@ pub box : (n P : ℕ) → 0 < n → n ≤ 8192 → 30 ≤ P → P ≤ 45 → let
 box n P h l p q =
     let w = weight n in
     let y = scaled n P in
-    let W : Within w 1 = within-div-int (int 1) 1 n (int-within 1) h (le-trans l (lit≤ tt)) (lit≤ tt) in
+    let W : Within w 1 = within-div-int (int 1) 1 n (int-within 1 (lit≤ tt)) h (le-trans l (lit≤ tt)) (lit≤ tt) in
     let e = recip-is n h l in
     let G = grid binary64 1 n in
     let g : HasValue w false G (2 ^ 1074) = subst (λ (z : Float). HasValue z false G (2 ^ 1074)) (sym e) (round-val binary64 1 n (round-under binary64 1 n (subst (λ (z : Float). T (finite z)) e (finite-at w 1 (within-at w 1 W))))) in
@@ -173,6 +166,3 @@ box n P h l p q =
     half-same (num y) (den y) (num w * 2 ^ P) (den w) (den-pos y) (den-pos w) (value→cross y (num w * 2 ^ P) (den w) v)
     ∙ half-same (num w * 2 ^ P) (den w) (G * 2 ^ P) (2 ^ 1074) (den-pos w) (pow-pos 1074) (mul-right-comm (num w) (2 ^ P) (2 ^ 1074) ∙ ap (λ (z : ℕ). z * 2 ^ P) (value→cross w G (2 ^ 1074) g) ∙ mul-right-comm G (den w) (2 ^ P)) in
     box-claim n P (nearest (num y) (den y)) l p (box-sum n P G (2 ^ 1074) (nearest (num y) (den y)) (pow-pos 1074) q (recip-error n h l) k)
-  where
-    int-within : (n : ℕ) → Within (int 1) 1
-    int-within n = round-within binary64 1 1 1 (zero-lt-suc 0) (lit≤ tt) (le-refl 1)

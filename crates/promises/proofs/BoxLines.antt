@@ -1,35 +1,31 @@
 -- Every window of a Box plan: n lines, each with the share 1 / n rounded once, and no slot above 1. Assumes nothing.
 use mathlib.Core.Path.{_≡_, refl, sym, ap, _∙_, subst}
-use mathlib.Core.Bool.{Bool, true, false, not, cond}
-use Prim.Native.Nat.{ℕ, zero, suc, _+_, _-_, _*_, _^_, _≤_, _<_, zero-le}
-use native.Mathlib.Nat.{le-refl, le-trans, le-of-eq, le-of-lt, lt-of-lt-of-le, zero-lt-suc, mul-one}
+use mathlib.Core.Bool.{Bool, true, false}
+use Prim.Native.Nat.{ℕ, _+_, _^_, _≤_, _<_, zero-le}
+use native.Mathlib.Nat.{le-trans, le-of-eq, lt-of-lt-of-le, zero-lt-suc}
 use native.Mathlib.Omega.{arith}
-use lib.Dec.{T, ltb, lit≤, lit<}
-use borrow.Author.Tests.{lt-ltb, le-ltb, ltb-true, ltb-false}
-use lib.Ieee.{Float, nan, inf, fin, binary64, round, sub, div, ofBits}
+use lib.Dec.{ltb, lit≤}
+use borrow.Author.Tests.{lt-ltb, ltb-true, ltb-false}
+use lib.Ieee.{Float, binary64, ofBits}
 use Rattle.floats.specs.Within.{Within, AtMost}
 use Rattle.floats.proofs.Within.{round-within}
-use Rattle.numbers.specs.Window.{stop}
-use Rattle.floats.proofs.Integers.{int, int-value, within-div-int}
+use Rattle.floats.proofs.Integers.{int, int-value, within-div-int, int-within}
 use Rattle.filters.specs.declared.FilterType.{FilterType}
 use Rattle.filters.specs.declared.FilterType.the-variants.{Box}
-use Rattle.floats.specs.Doubles.{zero64, one64, half64, _over_}
+use Rattle.floats.specs.Doubles.{zero64, half64, _over_}
 use Rattle.coefficients.specs.declared.Plan.{Plan}
-use Rattle.coefficients.specs.Weights.{weighs, weighsFrom, weightFrom, totalOf, sizeOf, shareOf, upTo}
+use Rattle.coefficients.specs.Weights.{weighs, weighsFrom, weightFrom, totalOf, sizeOf, upTo}
 use Rattle.coefficients.specs.Inner.{Sound}
-use Rattle.coefficients.specs.Lines.{centre, rangeStop, middle, lead, held, total, size, slot, blank}
+use Rattle.coefficients.specs.Lines.{centre, middle, lead, held, total, size, slot, blank}
 use Rattle.coefficients.proofs.WeightLaws.{up-le}
 use Rattle.coefficients.proofs.WindowLaws.{Fits, window-fits, lead-weighs, held-def, stop-side}
 use Rattle.promises.proofs.Box.{weight}
-use Rattle.floats.proofs.AtMost.{within-at, at-more, sub-at}
+use Rattle.floats.proofs.AtMost.{within-at, sub-at}
 use Rattle.promises.proofs.BoxWindow.{none, one, one-weight, no-weight, total-is}
 
 half-at : AtMost half64 (2 ^ 30)
 unfolding ofBits
 half-at = lit≤ tt
-
-int-within : (n : ℕ) → n ≤ 2 ^ 53 → Within (int n) n
-int-within n h = round-within binary64 n 1 n (zero-lt-suc 0) h (le-of-eq (sym (mul-one n)))
 
 -- a share of a total n: of a weight 1 or 0 it is at most 1
 share-within : (w : Float) (n : ℕ) → Within w 1 → 0 < n → n ≤ 8192 → Within (w over int n) 1

@@ -1,17 +1,17 @@
 -- What a plan keeps of its request besides being sound: the filter that was asked for, and one over the filter scale, which is at most 1. Assumes nothing.
-use mathlib.Core.Path.{_≡_, refl, sym, ap, _∙_, subst}
+use mathlib.Core.Path.{_≡_, refl, sym, _∙_, subst}
 use mathlib.Core.Bool.{Bool, true, false, cond}
-use Prim.Native.Nat.{ℕ, _+_, _*_, _^_, _≤_, _<_}
-use native.Mathlib.Nat.{le-trans, le-of-eq, le-of-lt, zero-lt-suc, mul-one, one-mul, le-refl}
+use Prim.Native.Nat.{ℕ, _*_, _<_}
+use native.Mathlib.Nat.{le-trans, le-of-eq, le-of-lt, zero-lt-suc, one-mul}
 use native.Mathlib.Omega.{arith}
-use lib.Dec.{T, ltb, lit≤, lit<}
+use lib.Dec.{lit≤}
 use borrow.Author.Tests.{ltb-true}
 use lib.Ieee.{Float, binary64, round, div, lt, ofBits}
 use lib.Ieee.Exact.{HasValue}
 use lib.Ieee.Positive.{num, den, den-pos}
-use Rattle.floats.specs.Within.{Within, AtMost}
+use Rattle.floats.specs.Within.{Within}
 use Rattle.floats.proofs.Within.{within-value, round-within}
-use Rattle.floats.proofs.Integers.{int, int-value}
+use Rattle.floats.proofs.Integers.{int-value}
 use Rattle.floats.proofs.Value.{lt-values, div-values}
 use Rattle.floats.specs.Doubles.{one64, _over_}
 use Rattle.coefficients.specs.declared.Request.{Request}

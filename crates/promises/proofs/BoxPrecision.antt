@@ -1,16 +1,15 @@
 -- The precision of a set whose weights are at most 1: at least 30 in the 32-bit store. Assumes nothing.
-use mathlib.Core.Path.{_≡_, refl, sym, ap, _∙_, subst}
-use mathlib.Core.Bool.{Bool, true, false, cond, Bool·beq, _||_, _&&_}
+use mathlib.Core.Path.{_≡_, refl, sym, ap, _∙_}
+use mathlib.Core.Bool.{Bool, true, false, cond}
 use mathlib.Core.List.{List, [], _∷_}
-use Prim.Native.Nat.{ℕ, zero, suc, _+_, _-_, _*_, _^_, _≤_, _<_, zero-le}
-use native.Mathlib.Nat.{le-refl, le-trans, le-of-eq, le-of-lt, lt-of-lt-of-le, zero-lt-suc, add-zero, add-suc, suc-add, zero-add, mul-one, one-mul, not-suc-le-zero, le-of-suc-le-suc}
+use Prim.Native.Nat.{ℕ, zero, suc, _+_, _*_, _^_, _≤_, _<_, zero-le}
+use native.Mathlib.Nat.{le-refl, le-trans, le-of-eq, le-of-lt, zero-lt-suc, add-zero, add-suc, suc-add, zero-add, one-mul, not-suc-le-zero, le-of-suc-le-suc}
 use native.Mathlib.Numerals.{add-one}
 use native.Mathlib.Omega.{arith}
-use lib.Dec.{T, ltb, eqb, lit≤, lit<}
-use lib.IntN.{pos}
+use lib.Dec.{T, lit≤}
 use lib.Pow.{pow-mono}
 use borrow.Author.Tests.{lt-ltb, ltb-true, lt-leb}
-use lib.Ieee.{Float, nan, inf, fin, binary64, round, mul, lt, le, eq, level, ofInt, ofBits}
+use lib.Ieee.{Float, nan, inf, fin, binary64, mul, lt, le, ofInt, ofBits}
 use lib.Ieee.Positive.{num, den}
 use lib.ListN.{length, getD}
 use Rattle.lists.specs.Tab.{first, turns}
@@ -19,12 +18,11 @@ use Rattle.integers.specs.Nearest.{nearest}
 use Rattle.lists.proofs.FirstLaws.{first-le, first-ge}
 use Rattle.floats.specs.Within.{Within}
 use Rattle.floats.specs.Doubles.{zero64}
-use Rattle.floats.proofs.Within.{round-within}
 use Rattle.floats.proofs.Value.{lt-values}
 use Rattle.floats.proofs.Signs.{lhs, rhs, lt-nat, le-nat}
 use lib.Ieee.Exact.{HasValue}
 use lib.Ieee.Scale.{finite}
-use Rattle.floats.proofs.Integers.{int, int-value, within-mul}
+use Rattle.floats.proofs.Integers.{int, int-value, within-mul, int-within}
 use Rattle.normalizer.specs.Precision.{larger, largest, scaled, reaches, precision}
 use Rattle.promises.proofs.BoxFilter.{not-reached}
 
@@ -48,9 +46,6 @@ rounded-is nan n h = absurd h
 rounded-is (inf s) n h = absurd h
 rounded-is (fin true m e) n h = absurd h
 rounded-is (fin false m e) n h = refl
-
-int-within : (n : ℕ) → n ≤ 2 ^ 53 → Within (int n) n
-int-within n h = round-within binary64 n 1 n (zero-lt-suc 0) h (le-of-eq (sym (mul-one n)))
 
 -- a weight up to 1 does not reach 2^31 below 30
 not-reaches : (w : Float) (p : ℕ) → Within w 1 → p < 30 → reaches 31 w p ≡ false

@@ -1,34 +1,33 @@
 -- A Box set that was built and stored meets the premise of the flat frame at every window. The builder's half says that a window is n slots of 1 / n (BoxSet); no weight is above 1, so the precision is 30 to 45
 -- (BoxPrecision); no weight in use left its type, so each becomes the same integer K, and `box` gives n K near enough to 2^P. Assumes nothing.
 use mathlib.Core.Path.{_≡_, refl, sym, ap, _∙_, subst}
-use mathlib.Core.Bool.{Bool, true, false, cond, not, _&&_, _||_}
+use mathlib.Core.Bool.{Bool, true, false, cond, not, _&&_}
 use mathlib.Core.List.{List}
-use Prim.Native.Nat.{ℕ, zero, suc, _+_, _-_, _*_, _/_, _%_, _^_, _≤_, _<_}
-use native.Mathlib.Nat.{le-refl, le-trans, le-of-eq, le-of-lt, lt-of-lt-of-le, mul-zero, mul-suc, mul-one, one-mul, zero-lt-suc}
+use Prim.Native.Nat.{ℕ, zero, suc, _+_, _*_, _^_, _≤_, _<_}
+use native.Mathlib.Nat.{le-trans, le-of-eq, le-of-lt, lt-of-lt-of-le, mul-zero, mul-suc, one-mul, zero-lt-suc}
 use native.Mathlib.Omega.{arith}
 use lib.Arith.{digits-lt, digits-div, digits-mod}
-use lib.Dec.{T, ltb, lit≤}
+use lib.Dec.{ltb, lit≤}
 use lib.Pow.{pow-mono}
-use lib.IntN.{ℤ, pos, _+ℤ_}
-use lib.Ieee.{Float, nan, inf, fin, binary64, ofInt, neg, lt, toSigned}
+use lib.IntN.{ℤ, pos}
+use lib.Ieee.{Float, nan, binary64, ofInt, neg, lt, toSigned}
 use lib.Ieee.Back.{positive-back}
 use lib.Ieee.Positive.{num, den, den-pos}
 use lib.ListN.{length, getD, take}
 use lib.Seq.{getD-take}
 use borrow.Author.Tests.{lt-ltb, ltb-true}
-use Rattle.lists.specs.Tab.{any, front, tab}
+use Rattle.lists.specs.Tab.{any, front}
 use Rattle.lists.proofs.TabLaws.{front-below}
 use Rattle.lists.proofs.BoolLaws.{never, ladder, or-right}
 use Rattle.lists.proofs.AnyLaws.{any-none}
 use Rattle.integers.specs.Nearest.{nearest}
-use Rattle.integers.specs.Sums.{sum, distance}
+use Rattle.integers.specs.Sums.{sum}
 use Rattle.integers.proofs.Parts.{distance-pos}
 use Rattle.floats.specs.Within.{Within}
-use Rattle.floats.specs.Doubles.{double}
 use Rattle.floats.proofs.Value.{lt-values}
-use Rattle.floats.proofs.Within.{round-within, within-value}
-use Rattle.floats.proofs.Integers.{int, int-value, within-mul, within-div-int, passes-float}
-use Rattle.numbers.specs.Whole.{whole, roundAway}
+use Rattle.floats.proofs.Within.{within-value}
+use Rattle.floats.proofs.Integers.{int, int-value, within-mul, within-div-int, passes-float, int-within}
+use Rattle.numbers.specs.Whole.{roundAway}
 use Rattle.numbers.proofs.Sizes.{half-le}
 use Rattle.refusal.specs.declared.Refusal.{Refusal}
 use Rattle.windows.specs.Fit.{badSides, badSet}
@@ -96,9 +95,6 @@ sum-ext : (f g : ℕ → ℤ) (n : ℕ) → ((k : ℕ) → k < n → f k ≡ g k
 unfolding sum
 sum-ext f g zero h = refl
 sum-ext f g (suc n) h = rw (sum-ext f g n (λ k l. h k (omega arith)), h n (omega arith))
-
-int-within : (m : ℕ) → m ≤ 2 ^ 53 → Within (int m) m
-int-within m h = round-within binary64 m 1 m (zero-lt-suc 0) h (le-of-eq (sym (mul-one m)))
 
 -- a size that is not negative, rounded and cast
 away-cast : (x : Float) (h n : ℕ) → h ≤ 53 → Within x n → nearest (num x) (den x) < 2 ^ h → toSigned h (roundAway binary64 x) ≡ pos (nearest (num x) (den x))

@@ -1,6 +1,6 @@
 -- The lists of a Box set that was built: slot by slot the shares of `BoxLines`, none above 1, and the sizes. Assumes nothing.
-use mathlib.Core.Path.{_≡_, refl, sym, ap, _∙_, subst}
-use mathlib.Core.Bool.{Bool, false, _||_}
+use mathlib.Core.Path.{_≡_, sym, ap, _∙_, subst}
+use mathlib.Core.Bool.{false, _||_}
 use mathlib.Core.List.{List}
 use Prim.Native.Nat.{ℕ, _+_, _*_, _/_, _%_, _≤_, _<_}
 use native.Mathlib.Nat.{le-trans, le-of-eq, lt-of-lt-of-le, div-lt-iff-lt-mul}
@@ -21,7 +21,7 @@ use Rattle.coefficients.specs.declared.Plan.{Plan}
 use Rattle.coefficients.specs.declared.Built.the-variants.{Done}
 use Rattle.coefficients.specs.Inner.{Sound}
 use Rattle.coefficients.specs.Lines.{slots, lead, size, slot, blank}
-use Rattle.coefficients.specs.Request.{judged, short, builtOf, weightsOf, startsOf, sizesOf}
+use Rattle.coefficients.specs.Request.{judged, builtOf, weightsOf, startsOf, sizesOf}
 use Rattle.coefficients.proofs.LineLaws.{or-zero-done}
 use Rattle.coefficients.proofs.PlanLaws.{plan-sound}
 use Rattle.coefficients.proofs.WindowLaws.{window-fits}

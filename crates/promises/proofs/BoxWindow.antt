@@ -1,33 +1,29 @@
 -- A Box window: the filter's argument grows with the line, so the lines that weigh stand next to each other; each weighs 1, their total is their number n
 -- exactly, and each share is 1 / n rounded once. Assumes nothing.
 use mathlib.Core.Path.{_≡_, refl, sym, ap, _∙_, subst}
-use mathlib.Core.Bool.{Bool, true, false, not, cond, _&&_}
-use Prim.Native.Nat.{ℕ, zero, suc, _+_, _-_, _*_, _^_, _≤_, _<_, zero-le}
-use native.Mathlib.Nat.{le-refl, le-trans, le-of-eq, le-of-lt, lt-of-lt-of-le, zero-lt-suc, add-zero, add-suc, zero-mul, mul-zero, mul-pos, mul-one}
+use mathlib.Core.Bool.{Bool, true, false, not, cond}
+use Prim.Native.Nat.{ℕ, zero, suc, _+_, _-_, _*_, _^_, _≤_, _<_}
+use native.Mathlib.Nat.{le-refl, le-trans, le-of-eq, zero-lt-suc, add-zero, add-suc, zero-mul, mul-zero, mul-pos, mul-one}
 use native.Mathlib.Numerals.{add-one}
 use native.Mathlib.Omega.{arith}
-use lib.Dec.{T, ltb, lit≤, lit<}
-use lib.IntN.{ℤ, pos, negsuc}
-use lib.Ieee.{Float, nan, inf, fin, binary64, round, add, sub, mul, div, neg, lt, le, eq, below, unlike, up, down, ofBits, ofInt}
+use lib.Dec.{T, lit≤}
+use lib.IntN.{ℤ}
+use lib.Ieee.{Float, nan, inf, fin, binary64, round, sub, mul, neg, le, eq, below, unlike, up, down, ofBits, ofInt}
 use lib.Ieee.Fits.{down-pos}
 use lib.Ieee.Exact.{HasValue}
 use lib.Ieee.Scale.{finite}
 use Rattle.lists.specs.Tab.{turns}
 use Rattle.floats.specs.Within.{Within, AtMost}
-use Rattle.floats.proofs.Within.{within-value}
 use Rattle.floats.proofs.Integers.{int, int-value, add-int}
-use Rattle.floats.proofs.Monotone.{mul-mono-right, int-sub-mono}
-use Rattle.floats.proofs.Monotone.{round-mono-signed}
-use Rattle.floats.proofs.Value.{mul-values, div-values}
-use Rattle.filters.specs.declared.FilterType.{FilterType}
-use Rattle.filters.specs.declared.FilterType.the-variants.{Box, Bilinear, CatmullRom, Mitchell}
-use Rattle.floats.specs.Doubles.{zero64, one64, half64, _plus_, _minus_, _times_, _over_}
+use Rattle.floats.proofs.Monotone.{mul-mono-right, int-sub-mono, round-mono-signed}
+use Rattle.filters.specs.declared.FilterType.the-variants.{Box}
+use Rattle.floats.specs.Doubles.{zero64, one64, _plus_}
 use Rattle.filters.specs.Filters.{valueOf, boxOf}
-use Rattle.coefficients.specs.Weights.{lineWeight, weighs, weighsFrom, weightFrom, addTo, totalOf, sizeOf, upTo}
+use Rattle.coefficients.specs.Weights.{lineWeight, weighs, weighsFrom, weightFrom, addTo, totalOf, upTo}
 use Rattle.coefficients.proofs.WeightLaws.{up-le, up-last, up-past}
 use Rattle.coefficients.proofs.WindowLaws.{up-pos}
-use Rattle.promises.proofs.BoxFilter.{inBox, between, arg, arg-mono}
-use Rattle.floats.proofs.AtMost.{finite-at, within-at, at-more, round-at, mul-at, sub-at}
+use Rattle.promises.proofs.BoxFilter.{inBox, between, arg}
+use Rattle.floats.proofs.AtMost.{finite-at, within-at, round-at, mul-at, sub-at}
 
 pub none : zero64 ≡ int 0
 unfolding ofBits round

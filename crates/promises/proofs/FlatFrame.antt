@@ -1,24 +1,23 @@
 -- The proof of `FlatFrame`: a pass that did not refuse has all its windows inside the frame, so every sample in use is v, and `flat-unchanged` gives each value.
 -- Assumes nothing.
 use mathlib.Core.Path.{_≡_, refl}
-use mathlib.Core.List.{List}
-use Prim.Native.Nat.{ℕ, _+_, _*_, _/_, _%_, _≤_, _<_}
+use Prim.Native.Nat.{ℕ, _+_, _*_, _/_, _%_, _<_}
 use native.Mathlib.Nat.{zero-add, mod-lt, div-lt-iff-lt-mul}
 use native.Mathlib.Omega.{arith}
 use lib.Arith.{digits-lt}
-use lib.IntN.{ℤ, pos}
-use lib.ListN.{length, getD}
-use Rattle.lists.specs.Tab.{tab, grid}
+use lib.IntN.{pos}
+use lib.ListN.{length}
+use Rattle.lists.specs.Tab.{grid}
 use Rattle.lists.proofs.TabLaws.{tab-ext}
 use Rattle.integers.proofs.Sums.{total-ext}
-use Rattle.windows.specs.Set.{Set, windows, start, size, weight, sample}
+use Rattle.windows.specs.Set.{windows, start, size, weight, sample}
 use Rattle.windows.proofs.Fits.{Within, not-outside}
 use Rattle.vertical.specs.declared.Passed.the-variants.{Done}
 use Rattle.vertical.specs.Frame.{frame}
 use Rattle.vertical.specs.U16.{passed16, written16, valueAt}
 use Rattle.vertical.proofs.Answers.{Tests16, tests16, Shaped, shaped}
 use Rattle.vertical.proofs.Columns.{some-column}
-use Rattle.promises.specs.FlatFrames.{NearOne, Flat, FlatFrame}
+use Rattle.promises.specs.FlatFrames.{FlatFrame}
 use Rattle.promises.proofs.Accepted.{passed-done}
 use Rattle.promises.proofs.Frames.{flat-unchanged}
 

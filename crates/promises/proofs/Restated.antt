@@ -1,7 +1,7 @@
 -- Promises that are proved in the crate of their definitions, said here again: alpha's three steps and the rule of the clip's table. Assumes nothing.
 use mathlib.Core.Path.{_≡_, refl}
 use mathlib.Core.Bool.{Bool, true, false, cond}
-use Prim.Native.Nat.{ℕ, suc, _-_, _≤_, _<_, min}
+use Prim.Native.Nat.{suc, _-_, _<_, min}
 use native.Mathlib.Omega.{arith}
 use lib.Dec.{ltb}
 use lib.IntN.{pos, negsuc}

@@ -1,5 +1,5 @@
 -- The contract of `number` decides its answer. Assumes nothing.
-use mathlib.Core.Path.{_≡_, _∙_, sym}
+use mathlib.Core.Path.{_∙_, sym}
 use Rattle.lists.proofs.Sure.{DecidesResult}
 use Rattle.refusal.proofs.number.Kinds as number
 use Rattle.refusal.proofs.number.Reads as number-reads

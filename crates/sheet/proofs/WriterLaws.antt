@@ -15,8 +15,15 @@ use Rattle.windows.specs.Fit.{badSides}
 use Rattle.windows.specs.Set.{Set, windows}
 use Rattle.sheet.specs.declared.Sheet.{Sheet}
 use Rattle.sheet.specs.declared.Sheet.the-variants.{Written, Refused}
-use Rattle.sheet.specs.Answer.{badSheet, mostOf, byCase, answerOf, writtenOf}
+use Rattle.sheet.specs.Answer.{badSheet, noRoom, mostOf, byCase, answerOf, writtenOf}
 use Rattle.sheet.specs.Text.{sheetText}
+
+-- a room that is short of the text, by one byte or more, is refused; a room of the text's length or more is not
+short-room : (room text : ℕ) → room < text → noRoom room text ≡ true
+short-room room text h = lt-ltb room text h
+
+enough-room : (room text : ℕ) → text ≤ room → noRoom room text ≡ false
+enough-room room text h = le-ltb room text h
 
 module _ (kind : FilterType) (store : ℕ) (s : Set ℤ) (old : List ℕ) where
   -- the answer and the list at exit are the contract's
@@ -35,10 +42,10 @@ module _ (kind : FilterType) (store : ℕ) (s : Set ℤ) (old : List ℕ) where
     module _ (fits : badSheet (s .lines) (s .window) (s .precision) (mostOf store) (length (s .weights)) (s .starts) (s .sizes) ≡ false) where
       pub room-refused : length old < length (sheetText kind store s) → Meets (Refused NoRoom) old
       unfolding byCase
-      room-refused h = rw (sides, fits, lt-ltb (length old) (length (sheetText kind store s)) h) (refl, refl)
+      room-refused h = rw (sides, fits, short-room (length old) (length (sheetText kind store s)) h) (refl, refl)
 
       pub all-written : {n : ℕ} {new : List ℕ} → length (sheetText kind store s) ≤ length old → n ≡ length (sheetText kind store s) → new ≡ laid old 0 (sheetText kind store s) → Meets (Written n) new
       unfolding byCase
       all-written h e-n e =
-          rw (sides, fits, le-ltb (length old) (length (sheetText kind store s)) h)
+          rw (sides, fits, enough-room (length old) (length (sheetText kind store s)) h)
           (ap Written e-n, e ∙ laid-over old (sheetText kind store s) h)

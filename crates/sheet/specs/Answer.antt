@@ -25,12 +25,16 @@ badSheet lines window precision most slots starts sizes = badSet lines window sl
 abbrev pub mostOf : ℕ → ℕ
 mostOf store = cond (eqb store 16) 21 45
 
--- the one choice: No. 1, No. 10, No. 11 where the room is less than the text, else done
+-- No. 11: the room is less than the text
+abbrev pub noRoom : ℕ → ℕ → Bool
+noRoom room text = ltb room text
+
+-- the one choice: No. 1, No. 10, No. 11, else done
 unfoldable pub byCase : {A : Type 0} → ℕ → Set ℤ → ℕ → ℕ → (Refusal → A) → A → A
 byCase store s room text refused done =
     cond (badSides (s .lines) (windows s)) (refused BadSide)
     (cond (badSheet (s .lines) (s .window) (s .precision) (mostOf store) (length (s .weights)) (s .starts) (s .sizes)) (refused DoesNotFit)
-    (cond (ltb room text) (refused NoRoom)
+    (cond (noRoom room text) (refused NoRoom)
     done))
 
 -- the answer: how many bytes were written, or the refusal

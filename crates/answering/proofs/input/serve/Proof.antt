@@ -11,6 +11,9 @@ Inv-loop buf₀ out₀ s₀ turns₀ buf out s turns = (length buf ≡ length bu
 abbrev μ-loop : tie.MeasureT-loop
 μ-loop buf₀ out₀ s₀ turns₀ buf out s turns = turns
 
+going-requires : tie.Need-going-requires Inv-loop μ-loop
+going-requires c κs = search needs
+
 loop-holds : tie.Need-loop-holds Inv-loop μ-loop
 loop-holds c = search needs
 
@@ -56,6 +59,7 @@ serve-spec =
     (tie.spec
     Inv-loop
     μ-loop
+    going-requires
     loop-holds
     turn-requires
     flush-requires

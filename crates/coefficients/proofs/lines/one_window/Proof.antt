@@ -2,12 +2,11 @@
 use borrow.Author.Needs.{needs}
 use Rattle.coefficients.proofs.lines.one_window.Statement.{statement}
 use Rattle.coefficients.proofs.lines.one_window.Tie as tie
-use Rattle.coefficients.specs.Lines.{centre}
+use Rattle.coefficients.specs.Lines.{centre, lead, held, total, middle}
 use native.Mathlib.Omega.{arith}
 use mathlib.Core.Path.{_≡_, sym}
 use Prim.Native.Nat.{ℕ, _≤_, _<_, _^_, _+_, _-_}
 use lib.ListN.{length}
-use Rattle.coefficients.specs.Lines.{lead, held, total, middle}
 use native.Mathlib.Nat.{le-trans, le-of-eq}
 use Rattle.lists.proofs.TabLaws.{length-front}
 use Rattle.coefficients.specs.Weights.{weightFrom}

@@ -1,26 +1,16 @@
 -- `window_size` meets its contract: a radius of at most 2^14 has a ceiling of at most 2^14, so the cast and the sum are in range. Assumes nothing.
 use Rattle.numbers.proofs.Ranges.{ceil-in}
-use Rattle.floats.specs.Within.{Within}
-use Rattle.floats.proofs.Within.{within-value}
-use Rattle.numbers.proofs.Window.{ceil-cast}
 use Rattle.numbers.specs.Window.{window}
-use Rattle.numbers.proofs.Sizes.{raised-le}
 use Rattle.numbers.specs.Whole.{ceil}
-use lib.Ieee.Positive.{num, den, den-pos}
 use lib.Ieee.{Float, binary64, inUnsigned, toUnsigned}
 use lib.Dec.{T, lit<}
 use native.Mathlib.Omega.{arith}
-use native.Mathlib.Nat.{le-trans, le-of-eq}
 use Prim.Native.Nat.{ℕ, _≤_, _^_, _*_, _+_}
-use mathlib.Core.Path.{_≡_, sym, ap, _∙_, subst}
+use mathlib.Core.Path.{_≡_, sym, ap, subst}
 use borrow.Author.Needs.{needs}
 use Rattle.coefficients.proofs.planning.window_size.Statement.{statement}
 use Rattle.coefficients.proofs.planning.window_size.Tie as tie
-
--- the ceiling of what is at most 2 ^ 14
-size : (x y : Float) → Within x (2 ^ 14) → y ≡ ceil binary64 x → toUnsigned 32 y ≤ 2 ^ 14
-size x y w e =
-    le-trans (le-of-eq (ap (toUnsigned 32) e ∙ ceil-cast x (2 ^ 14) (lit< tt) w)) (raised-le (num x) (den x) (den-pos x) (2 ^ 14) (within-value x (2 ^ 14) w .1))
+use Rattle.coefficients.proofs.PlanLaws.{ceil-small}
 
 sizes : (z y : ℕ) → z ≡ y → z * 2 + 1 ≡ 2 * y + 1
 sizes z y e = omega arith
@@ -33,17 +23,17 @@ float-to-int-result c =
     subst (λ (z : Float). T (inUnsigned binary64 32 z)) (sym (c .before .ceil .ensures)) (ceil-in (c .before .before .args .radius) (2 ^ 14) (lit< tt) (c .before .before .pre))
 
 mul-result : tie.Need-mul-result
-mul-result c = omega (arith, size (c .before .before .args .radius) (c .before .ceil .result) (c .before .before .pre) (c .before .ceil .ensures))
+mul-result c = omega (arith, ceil-small (c .before .before .args .radius) (c .before .ceil .result) (c .before .before .pre) (c .before .ceil .ensures))
 
 add-result : tie.Need-add-result
-add-result c = omega (arith, size (c .before .before .args .radius) (c .before .ceil .result) (c .before .before .pre) (c .before .ceil .ensures))
+add-result c = omega (arith, ceil-small (c .before .before .args .radius) (c .before .ceil .result) (c .before .before .pre) (c .before .ceil .ensures))
 
 returns : tie.Need-returns
 unfolding window
 returns c =
     let r = c .before .before .args .radius in
     let z = toUnsigned 32 (c .before .ceil .result) in
-    let l : z ≤ 2 ^ 14 = size r (c .before .ceil .result) (c .before .before .pre) (c .before .ceil .ensures) in
+    let l : z ≤ 2 ^ 14 = ceil-small r (c .before .ceil .result) (c .before .before .pre) (c .before .ceil .ensures) in
     let e : z ≡ toUnsigned 32 (ceil binary64 r) = ap (toUnsigned 32) (c .before .ceil .ensures) in
     (sizes z (toUnsigned 32 (ceil binary64 r)) e, omega arith)
 

@@ -3,8 +3,8 @@ use Rattle.normalizer.proofs.precision.largest.Statement.{statement}
 use Rattle.normalizer.proofs.precision.largest.Tie as tie
 use borrow.Author.Needs.{needs}
 use native.Mathlib.Omega.{arith}
-use mathlib.Core.Path.{_≡_, refl}
-use Prim.Native.Nat.{_≤_, _-_}
+use mathlib.Core.Path.{_≡_, refl, ap, _∙_}
+use Prim.Native.Nat.{_≤_, _-_, _<_, ℕ}
 use lib.ListN.{length, getD}
 use lib.Ieee.{Float, nan}
 use Rattle.lists.specs.Tab.{turns}
@@ -12,9 +12,6 @@ use Rattle.floats.specs.Doubles.{zero64}
 use Rattle.normalizer.specs.Precision.{larger, largest}
 use native.Mathlib.Numerals.{add-one}
 use mathlib.Core.List.{List, [], _∷_}
-use Prim.Native.Nat.{_<_}
-use mathlib.Core.Path.{ap, _∙_}
-use Prim.Native.Nat.{ℕ}
 
 nothing : (l : List Float) → length l ≡ 0 → zero64 ≡ largest l
 unfolding largest

@@ -8,7 +8,7 @@ use Prim.Native.Nat.{_≤_, _-_, _+_}
 use native.Mathlib.Nat.{sub-zero}
 use Rattle.lists.specs.Tab.{first}
 use Rattle.lists.proofs.FirstLaws.{first-stop, first-on}
-use Rattle.normalizer.specs.Precision.{precision, reaches, largest}
+use Rattle.normalizer.specs.Precision.{precision, reaches}
 
 abbrev Inv-loop : tie.InvT-loop
 Inv-loop weights bits limit w p₀ p = (p + 1 ≤ bits) × (precision bits limit weights ≡ first (reaches limit w) p (bits - 1 - p))

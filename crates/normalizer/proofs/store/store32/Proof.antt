@@ -5,7 +5,7 @@ use borrow.Author.Needs.{needs}
 use native.Mathlib.Omega.{arith}
 use mathlib.Core.Path.{_≡_, ap, _∙_}
 use Prim.Native.Nat.{_≤_, _-_}
-use lib.ListN.{length}
+use lib.ListN.{length, getD}
 use Rattle.lists.proofs.TabLaws.{Written, written-none, written-more}
 use Rattle.lists.proofs.AnyLaws.{any-none}
 use Rattle.windows.specs.Set.{setOf}
@@ -13,7 +13,6 @@ use Rattle.normalizer.specs.Answer.{leaves, slotAt}
 use mathlib.Core.Bool.{Bool, cond}
 use lib.IntN.{pos}
 use lib.Ieee.{nan}
-use lib.ListN.{getD}
 use mir.Facts.{toZ-ofZ}
 use Rattle.normalizer.specs.Precision.{integer}
 

@@ -1,8 +1,7 @@
 -- `decimal::digit` meets its contract: after k turns m is n / 10^k. Assumes nothing.
 use mathlib.Core.Path.{_≡_}
 use Prim.Native.Nat.{_≤_, _-_, _/_, _^_}
-use native.Mathlib.Nat.{div-one}
-use native.Mathlib.Nat.{pow-suc, div-div-eq-div-mul}
+use native.Mathlib.Nat.{div-one, pow-suc, div-div-eq-div-mul}
 use native.Mathlib.Numerals.{add-one}
 use native.Mathlib.Omega.{arith}
 use borrow.Author.Needs.{needs}

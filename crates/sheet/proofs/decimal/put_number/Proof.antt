@@ -5,8 +5,7 @@ use native.Mathlib.Omega.{arith}
 use lib.ListN.{set}
 use borrow.Author.Needs.{needs}
 use Rattle.lists.specs.Tab.{tab}
-use Rattle.lists.specs.Text.{digitAt}
-use Rattle.lists.specs.Text.{decimal}
+use Rattle.lists.specs.Text.{digitAt, decimal}
 use Rattle.lists.proofs.TextLaws.{Laid, laid-none, laid-slot, laid-long, decimal-long}
 use Rattle.sheet.proofs.decimal.put_number.Statement.{statement}
 use Rattle.sheet.proofs.decimal.put_number.Tie as tie

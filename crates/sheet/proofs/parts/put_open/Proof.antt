@@ -3,9 +3,8 @@ use native.Mathlib.Omega.{arith}
 use lib.ListN.{length-append}
 use borrow.Author.Needs.{needs}
 use Rattle.lists.proofs.TextLaws.{laid-none, laid-then, laid-byte, laid-long}
-use Rattle.sheet.specs.Text.{fieldText}
+use Rattle.sheet.specs.Text.{fieldText, openText}
 use Rattle.sheet.specs.Keys.{keyLine, equals, comma}
-use Rattle.sheet.specs.Text.{openText}
 use Rattle.sheet.proofs.parts.put_open.Statement.{statement}
 use Rattle.sheet.proofs.parts.put_open.Tie as tie
 

@@ -3,9 +3,8 @@ use native.Mathlib.Omega.{arith}
 use lib.ListN.{length-append}
 use borrow.Author.Needs.{needs}
 use Rattle.lists.proofs.TextLaws.{laid-none, laid-then, laid-long}
-use Rattle.sheet.specs.Text.{lineText}
+use Rattle.sheet.specs.Text.{lineText, sidesText}
 use Rattle.sheet.specs.Keys.{keyIn, keyOut, keyWindow}
-use Rattle.sheet.specs.Text.{sidesText}
 use Rattle.sheet.proofs.parts.put_sides.Statement.{statement}
 use Rattle.sheet.proofs.parts.put_sides.Tie as tie
 

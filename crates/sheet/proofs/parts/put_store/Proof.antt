@@ -3,9 +3,8 @@ use native.Mathlib.Omega.{arith}
 use lib.ListN.{length-append}
 use borrow.Author.Needs.{needs}
 use Rattle.lists.proofs.TextLaws.{laid-none, laid-then, laid-long}
-use Rattle.sheet.specs.Text.{lineText}
+use Rattle.sheet.specs.Text.{lineText, storeText}
 use Rattle.sheet.specs.Keys.{keyStore, keyPrecision}
-use Rattle.sheet.specs.Text.{storeText}
 use Rattle.sheet.proofs.parts.put_store.Statement.{statement}
 use Rattle.sheet.proofs.parts.put_store.Tie as tie
 

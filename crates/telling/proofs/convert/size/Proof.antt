@@ -2,7 +2,7 @@
 use borrow.Author.Needs.{needs}
 use Rattle.telling.proofs.convert.size.Statement.{statement}
 use Rattle.telling.proofs.convert.size.Tie as tie
-use Rattle.telling.proofs.Signs.{Below, below, Above, above}
+use Rattle.lists.proofs.SizeLaws.{Below, below, Above, above}
 use mathlib.Core.Path.{_≡_, _∙_, ap}
 use native.Mathlib.Omega.{arith}
 use lib.IntN.{ℤ, pos, negsuc, _-ℤ_}
@@ -10,11 +10,11 @@ use mir.Syntax.{w32}
 use mir.Val.{toZ, ofZ}
 use mir.Facts.{toZ-ofZ, toZ-pos}
 
-low : (c : tie.Then1) → Below (c .before .args .v)
-low c = below (c .before .args .v) (c .before .fits .v) (rw (toZ-ofZ (c .before .fits .v)) at (c .if1 .taken))
+low : (c : tie.Then1) → Below 31 (c .before .args .v)
+low c = below 31 (c .before .args .v) (c .before .fits .v .sfits) (rw (toZ-ofZ (c .before .fits .v)) at (c .if1 .taken))
 
-high : (c : tie.Else1) → Above (c .before .args .v)
-high c = above (c .before .args .v) (c .before .fits .v) (rw (toZ-ofZ (c .before .fits .v)) at (c .if1 .left))
+high : (c : tie.Else1) → Above 31 (c .before .args .v)
+high c = above 31 (c .before .args .v) (c .before .fits .v .sfits) (rw (toZ-ofZ (c .before .fits .v)) at (c .if1 .left))
 
 -- the bits of -1 - v, read back
 back : (c : tie.Then1) → toZ w32 (ofZ w32 (negsuc 0 -ℤ c .before .args .v)) ≡ pos (low c .n)

@@ -1,7 +1,7 @@
 -- `ratio_box` meets its contract: the tests of the ratios choose one of three extents, and `placed` places it. Assumes nothing.
 use borrow.Author.Needs.{needs}
-use Rattle.crop_box.proofs.fitting.ratio_box.Statement.{statement}
-use Rattle.crop_box.proofs.fitting.ratio_box.Tie as tie
+use Rattle.crop_box.proofs.ratios.ratio_box.Statement.{statement}
+use Rattle.crop_box.proofs.ratios.ratio_box.Tie as tie
 use Rattle.crop_box.specs.Fit.{ratioBox}
 
 abs-requires : tie.Need-abs-requires

@@ -2,8 +2,8 @@
 use borrow.Author.Needs.{needs}
 use native.Mathlib.Nat.{mul-le-mul, lt-of-le-of-lt}
 use lib.Dec.{lit<}
-use Rattle.printing.proofs.making.normalise.Statement.{statement}
-use Rattle.printing.proofs.making.normalise.Tie as tie
+use Rattle.printing.proofs.making.count_slots.Statement.{statement}
+use Rattle.printing.proofs.making.count_slots.Tie as tie
 
 cast-n : tie.Need-cast-n
 cast-n c = search needs
@@ -29,8 +29,8 @@ cut-requires c κs = search needs
 returns-3 : tie.Need-returns-3
 returns-3 c = search needs
 
-pub normalise-spec : {M : Type 1} → statement M
-normalise-spec =
+pub count-slots-spec : {M : Type 1} → statement M
+count-slots-spec =
     tie.close
     (tie.spec
     cast-n
