@@ -30,8 +30,8 @@ pub(crate) fn small(s: Sides, line: &[u8], w: Words, n: usize, out: &mut [u8]) -
 // For all others.
 pub(crate) fn large(s: Sides, line: &[u8], w: Words, n: usize, out: &mut [u8]) -> usize {
     let mut weights = [0.0f64; 16384];
-    let mut starts = [0u32; 16384];
-    let mut sizes = [0u32; 16384];
+    let mut starts = [0u32; 131072];
+    let mut sizes = [0u32; 131072];
     let mut lent = [0i32; 131072];
     read(
         s,

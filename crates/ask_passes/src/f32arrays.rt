@@ -27,8 +27,8 @@ pub(crate) fn small(f: Frame, line: &[u8], w: Words, n: usize, out: &mut [u8]) -
 // For all others.
 pub(crate) fn large(f: Frame, line: &[u8], w: Words, n: usize, out: &mut [u8]) -> usize {
     let mut weights = [0.0f64; 16384];
-    let mut starts = [0u32; 16384];
-    let mut sizes = [0u32; 16384];
+    let mut starts = [0u32; 131072];
+    let mut sizes = [0u32; 131072];
     let mut samples = [0.0f32; 32768];
     let mut lent = [0.0f32; 131072];
     read_weights(

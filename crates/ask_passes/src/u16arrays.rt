@@ -42,8 +42,8 @@ pub(crate) fn large(
     out: &mut [u8],
 ) -> usize {
     let mut weights = [0i32; 131072];
-    let mut starts = [0u32; 16384];
-    let mut sizes = [0u32; 16384];
+    let mut starts = [0u32; 131072];
+    let mut sizes = [0u32; 131072];
     let mut samples = [0u16; 131072];
     let mut lent = [0u16; 131072];
     read_weights(

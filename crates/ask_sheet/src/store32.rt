@@ -29,9 +29,9 @@ pub(crate) fn small(set: Set, line: &[u8], w: Words, n: usize, out: &mut [u8]) -
 // For all others.
 pub(crate) fn large(set: Set, line: &[u8], w: Words, n: usize, out: &mut [u8]) -> usize {
     let mut weights = [0i32; 131072];
-    let mut starts = [0u32; 16384];
-    let mut sizes = [0u32; 16384];
-    let mut lent = [0u8; 131072];
+    let mut starts = [0u32; 131072];
+    let mut sizes = [0u32; 131072];
+    let mut lent = [0u8; 524288];
     read(
         set,
         line,

@@ -40,9 +40,9 @@ fn small(r: Request, line: &[u8], w: Words, n: usize, out: &mut [u8]) -> usize {
 
 // For all others.
 fn large(r: Request, line: &[u8], w: Words, n: usize, out: &mut [u8]) -> usize {
-    let mut slots = [0.0f64; 65536];
-    let mut starts = [0u32; 16384];
-    let mut sizes = [0u32; 16384];
+    let mut slots = [0.0f64; 131072];
+    let mut starts = [0u32; 131072];
+    let mut sizes = [0u32; 131072];
     read(r, line, w, n, out, &mut slots, &mut starts, &mut sizes)
 }
 

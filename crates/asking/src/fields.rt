@@ -61,9 +61,9 @@ pub fn double_at(line: &[u8], w: Words, k: usize) -> Double {
     }
 }
 
-// Word k as the length of a lent list, `MALFORMED` above 131,072 too.
+// Word k as the length of a lent list, `MALFORMED` above 524,288 too.
 pub fn length_at(line: &[u8], w: Words, k: usize) -> usize {
-    let read = digits::decimal(line, words::from(w, k), words::to(w, k), 131072);
+    let read = digits::decimal(line, words::from(w, k), words::to(w, k), 524288);
     match read {
         Num::Is(x) => x as usize,
         Num::Bad => MALFORMED,
