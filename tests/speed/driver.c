@@ -24,8 +24,8 @@ extern size_t given_written(const struct job *, uint8_t *);
 extern struct job *given_alpha(uint32_t divide, uint32_t in_place, const uint8_t *, size_t);
 extern struct job *given_u16(uint32_t kind, uint32_t side, uint32_t out, uint32_t row, const uint16_t *);
 extern struct job *given_f32(uint32_t kind, uint32_t side, uint32_t out, uint32_t row, const float *);
-extern struct job *given_build(uint32_t kind, uint32_t side, uint32_t out);
-extern struct job *given_normalize(uint32_t bits, uint32_t kind, uint32_t side, uint32_t out);
+extern struct job *given_build(uint32_t kind, uint32_t side, uint32_t out, uint32_t runs);
+extern struct job *given_normalize(uint32_t bits, uint32_t kind, uint32_t side, uint32_t out, uint32_t runs);
 extern uint32_t given_set(uint32_t kind, uint32_t side, uint32_t out, double *, uint32_t *, uint32_t *);
 extern uint32_t given_integers(uint32_t kind, uint32_t side, uint32_t out, int32_t *);
 
@@ -134,7 +134,7 @@ static void build(uint32_t kind, uint32_t side, uint32_t out, int port, int runs
     uint32_t window = given_set(kind, side, out, slots, starts, sizes), line, no = 0;
     size_t count = (size_t)window * out;
     if (!port)
-        given(given_build(kind, side, out), runs, count);
+        given(given_build(kind, side, out, (uint32_t)runs), runs, count);
     missing_if(!mirror_weights);
     for (int i = 0; i < runs; i++)
         no = mirror_weights(side, 1, 0, 0, side, 1, MIRROR_HORIZONTAL, out, kind, 1, made_slots, count, made_starts, out, made_sizes, out,
@@ -150,7 +150,7 @@ static void normalize(int bits, uint32_t kind, uint32_t side, uint32_t out, int 
     uint32_t window = given_set(kind, side, out, slots, starts, sizes), precision = 0, no = 0;
     size_t count = (size_t)window * out, width = bits / 8;
     if (!port)
-        given(given_normalize(bits, kind, side, out), runs, count);
+        given(given_normalize(bits, kind, side, out, (uint32_t)runs), runs, count);
     missing_if(bits == 16 ? !mirror_normalize16 : !mirror_normalize32);
     for (int i = 0; i < runs; i++) {
         if (bits == 16)

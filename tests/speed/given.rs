@@ -27,8 +27,11 @@ use pixels::{F32, U16, U8x4};
 type Normalizer16 = <Door as Named>::Normalizer16;
 type Normalizer32 = <Door as Named>::Normalizer32;
 
-/// Results are kept, so that no run pays for giving memory back; sets that a run consumes are made beforehand.
-const RUNS: usize = 210;
+/// Results are kept, so that no run pays for giving memory back; sets that a run consumes are made beforehand: for at least five runs, so
+/// that three and four runs prepare the same.
+fn room(runs: u32) -> usize {
+    runs.max(5) as usize
+}
 
 pub enum Job {
     Alpha { divide: bool, src: Frame<U8x4>, dst: FrameMut<U8x4> },
@@ -112,17 +115,17 @@ pub unsafe extern "C" fn given_f32(kind: u32, side: u32, out: u32, row: u32, src
 }
 
 #[no_mangle]
-pub extern "C" fn given_build(kind: u32, side: u32, out: u32) -> *mut Job {
-    job(Job::Build { kind: kind_of(kind), side, out, made: Vec::with_capacity(RUNS) })
+pub extern "C" fn given_build(kind: u32, side: u32, out: u32, runs: u32) -> *mut Job {
+    job(Job::Build { kind: kind_of(kind), side, out, made: Vec::with_capacity(room(runs)) })
 }
 
 #[no_mangle]
-pub extern "C" fn given_normalize(bits: u32, kind: u32, side: u32, out: u32) -> *mut Job {
-    let sets = vec![built(kind_of(kind), side, out); RUNS];
+pub extern "C" fn given_normalize(bits: u32, kind: u32, side: u32, out: u32, runs: u32) -> *mut Job {
+    let sets = vec![built(kind_of(kind), side, out); room(runs)];
     if bits == 16 {
-        return job(Job::Normalize16 { sets, made: Vec::with_capacity(RUNS) });
+        return job(Job::Normalize16 { sets, made: Vec::with_capacity(room(runs)) });
     }
-    job(Job::Normalize32 { sets, made: Vec::with_capacity(RUNS) })
+    job(Job::Normalize32 { sets, made: Vec::with_capacity(room(runs)) })
 }
 
 unsafe fn laid<T: Copy>(from: impl Iterator<Item = T>, to: *mut u8) -> usize {
