@@ -1,11 +1,11 @@
 -- What a crop that is inside passed, read off the crop's own rows: each axis has a side of 1 to 8,192, finite numbers, a width that is not negative, and
 -- edges within the side. Cited by PlanLaws. Assumes nothing.
-use mathlib.Core.Path.{_≡_, refl, sym, ap, _∙_, subst}
-use mathlib.Core.Bool.{Bool, true, false, not, _&&_, _||_, true≢false}
+use mathlib.Core.Path.{_≡_, sym, ap, _∙_, subst}
+use mathlib.Core.Bool.{true, false, _&&_, _||_}
 use Prim.Native.Nat.{ℕ, zero, _≤_, _<_}
 use lib.IntN.{pos}
 use lib.Dec.{ltb}
-use borrow.Author.Tests.{ltb-false}
+use borrow.Author.Tests.{ltb-false, not-false}
 use lib.Ieee.{binary64, add, lt, le, ofInt}
 use Rattle.lists.proofs.BoolLaws.{or-left, or-right, and-left, and-right}
 use Rattle.crop_box.specs.declared.CropBox.{CropBox}
@@ -14,10 +14,6 @@ use Rattle.crop_box.specs.Crop.{cropOf, numberOf, boxOf, badSides, notFinite, n
 use Rattle.crop_box.proofs.Rows.{crop-0}
 use Rattle.floats.specs.Doubles.{isFinite, zero64}
 use Rattle.coefficients.proofs.Bounds.{Passed}
-
-not-false : (x : Bool) → not x ≡ false → x ≡ true
-not-false true h = refl
-not-false false h = absurd (true≢false h)
 
 sides-left : (w h : ℕ) → badSides w h ≡ false → (0 < w) × (w ≤ 8192)
 sides-left w h e =

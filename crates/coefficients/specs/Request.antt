@@ -25,6 +25,7 @@ use Rattle.coefficients.specs.declared.Planned.the-variants.{Ready, Refu
 use Rattle.coefficients.specs.declared.Built.{Built}
 use Rattle.coefficients.specs.declared.Built.the-variants.{Done, Blank, Refused as BuildRefused}
 use Rattle.coefficients.specs.Lines.{slots, firstBlank, orZero, weightsIn, startsIn, sizesIn}
+use Rattle.windows.specs.Fit.{outside}
 
 -- the near edge is left (or top), the far edge left + width (or top + height), rounded once
 unfoldable pub edgeOf : Axis → ℕ → ℕ → CropBox → Edge
@@ -58,7 +59,7 @@ planFor f adapts e output = record {
 
 -- No. 1: an output side outside 1 to 8,192
 abbrev pub badOutput : ℕ → Bool
-badOutput output = ltb output 1 || ltb 8192 output
+badOutput output = outside 1 8192 output
 
 -- No. 6: scale is 0 or less
 abbrev pub noScale : Edge → ℕ → Bool

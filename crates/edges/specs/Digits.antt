@@ -1,5 +1,5 @@
 -- Digits in a text and the whole numbers that they write, in any base up to 16. Cited by specs/Edge and by the inner contracts.
--- Assumes nothing.
+-- Definitions only. Assumes nothing.
 use mathlib.Core.List.{List}
 use mathlib.Core.Bool.{Bool, cond, not}
 use Prim.Native.Nat.{ℕ, _+_, _-_, _*_}

@@ -1,5 +1,5 @@
 -- The edge that a text stands for. Cited by `read_edge`'s contract. Bytes: 45 is a minus sign, 46 a point, 48 the digit 0, 120 an x.
--- Assumes nothing.
+-- Definitions only. Assumes nothing.
 use mathlib.Core.List.{List}
 use mathlib.Core.Bool.{Bool, cond, _&&_}
 use Prim.Native.Nat.{ℕ, _+_, _-_, _^_}

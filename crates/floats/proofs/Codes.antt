@@ -1,12 +1,12 @@
 -- Which patterns are NaNs, and what is no NaN. Cited by the functions on bit patterns. Assumes nothing.
 use mathlib.Core.Path.{_≡_, refl, sym, _∙_, subst}
-use mathlib.Core.Bool.{Bool, true, false, not, cond, true≢false}
-use Prim.Native.Nat.{ℕ, zero, suc, _+_, _*_, _%_, _^_, _≤_, _<_}
-use lib.Dec.{T, ltb, lt→ltb}
-use lib.Ieee.{Float, nan, inf, fin, Format, prec, low, hid, top, round, ofBits, toBits, nanBits, isNan, ne, emax, ones, odd, units}
+use mathlib.Core.Bool.{Bool, false, not, true≢false}
+use Prim.Native.Nat.{ℕ, _*_, _%_, _≤_, _<_}
+use lib.Dec.{T, lt→ltb}
+use lib.Ieee.{Float, nan, inf, fin, Format, hid, top, round, ofBits, toBits, nanBits, isNan, ne, ones}
 use lib.Ieee.Bits.{nanBits-is, nanBits-above, toBits-ofBits}
 use lib.Arith.{le→nltb}
-use lib.Ieee.Fits.{round-is}
+use Rattle.floats.proofs.Laws.{round-as}
 
 -- `x != x` is false
 pub equal-number : (x : Float) → ne x x ≡ false → T (not (isNan x))
@@ -32,18 +32,6 @@ pub code-back : (f : Format) (b : ℕ) → b < 2 * top f → b % top f ≤ ones 
 code-back f b h l = toBits-ofBits f b h (subst (λ (z : Bool). T (not z)) (nanBits-is f b) (no-nan-code f b l))
 
 -- ---- what is no NaN
-odd-number : (d : ℕ) (s : Bool) (q k l : ℕ) → T (not (isNan (odd d s q k l)))
-unfolding odd isNan
-odd-number d s zero k l = tt
-odd-number d s (suc q) k l = tt
-
-units-number : (f : Format) (s : Bool) (q k : ℕ) → T (not (isNan (units f s q k)))
-unfolding units
-units-number f s q k = go (ltb (q * 2 ^ k) (2 ^ (low f + suc (emax f))))
-  where
-    go : (b : Bool) → T (not (isNan (cond b (odd (suc (prec f)) s q k (low f)) (inf s))))
-    go true = odd-number (suc (prec f)) s q k (low f)
-    go false = unfold isNan in tt
-
 pub round-number : (f : Format) (s : Bool) (a c : ℕ) → T (not (isNan (round f s a c)))
-round-number f s a c = subst (λ (x : Float). T (not (isNan x))) (sym (round-is f s a c)) (units-number f s _ _)
+unfolding isNan
+round-number f s a c = round-as (λ (x : Float). T (not (isNan x))) f s a c (λ m e. tt) tt

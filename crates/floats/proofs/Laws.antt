@@ -1,4 +1,4 @@
--- Rounding to a format: a value that fits is not changed, two values that fit and have one sign and one size are one, and the sign goes through.
+-- Rounding to a format: a value that fits is not changed, two values that fit and have one sign and one size are one, and the sign is kept and goes through.
 -- Cited wherever a result is compared with `round`. Assumes nothing.
 use mathlib.Core.Path.{_≡_, refl, sym, ap, _∙_, subst}
 use mathlib.Core.Bool.{Bool, true, false, not, _&&_, cond}
@@ -87,6 +87,23 @@ round-fit f s zero e t =
     (subst (λ (x : Float). HasValue x s 0 1) (round-same f s 0 1 (0 * up e) (down e) (zero-lt-suc 0) (down-pos e) (zero-mul (down e) ∙ sym (mul-one (0 * up e) ∙ zero-mul (up e)))) (round-whole f s 0 zero-le))
     (refl, mul-one (0 * up e) ∙ zero-mul (up e) ∙ sym (zero-mul (down e)))
 round-fit f s (suc m) e t = fits-unique f (round f s (suc m * up e) (down e)) (fin s (suc m) e) s (suc m * up e) (down e) (down-pos e) (round-fits f s (suc m * up e) (down e)) t (round-same-value f s m e t) (refl, refl)
+
+-- ---- a rounded value with the sign s is a finite number or the infinity of that sign: what all of these have, it has
+odd-as : (P : Float → Type 0) (s : Bool) → ((m : ℕ) (e : ℤ) → P (fin s m e)) → (d q k l : ℕ) → P (odd d s q k l)
+unfolding odd
+odd-as P s h d zero k l = h _ _
+odd-as P s h d (suc q) k l = h _ _
+
+units-as : (P : Float → Type 0) (f : Format) (s : Bool) → ((m : ℕ) (e : ℤ) → P (fin s m e)) → P (inf s) → (q k : ℕ) → P (units f s q k)
+unfolding units
+units-as P f s h i q k = go (ltb (q * 2 ^ k) (2 ^ (low f + suc (emax f))))
+  where
+    go : (b : Bool) → P (cond b (odd (suc (prec f)) s q k (low f)) (inf s))
+    go true = odd-as P s h (suc (prec f)) q k (low f)
+    go false = i
+
+pub round-as : (P : Float → Type 0) (f : Format) (s : Bool) (a c : ℕ) → ((m : ℕ) (e : ℤ) → P (fin s m e)) → P (inf s) → P (round f s a c)
+round-as P f s a c h i = subst P (sym (round-is f s a c)) (units-as P f s h i _ _)
 
 -- ---- the sign goes through
 odd-neg : (d : ℕ) (s : Bool) (q k l : ℕ) → neg (odd d s q k l) ≡ odd d (not s) q k l

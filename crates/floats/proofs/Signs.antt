@@ -1,6 +1,6 @@
 -- A finite float as (plus - minus) / den, all natural numbers: comparisons are inequalities of natural numbers whatever the signs, and transitive.
 -- Cited by `Monotone` and by the Box promise. Assumes nothing.
-use mathlib.Core.Path.{_≡_, refl, sym, ap, _∙_, subst}
+use mathlib.Core.Path.{_≡_, sym, ap, _∙_, subst}
 use mathlib.Core.Bool.{Bool, true, false, _&&_, _||_, cond}
 use Prim.Native.Nat.{ℕ, _+_, _*_, _≤_, _<_}
 use native.Mathlib.Nat.{le-trans, le-of-eq, lt-of-not-le, not-le-of-lt, add-comm, zero-add, add-zero, zero-mul, mul-right-comm, add-mul, mul-le-mul-right, le-of-mul-le-mul-right}

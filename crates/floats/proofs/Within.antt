@@ -1,14 +1,14 @@
 -- Bounds from 0 to a whole number: rounding never crosses a whole number, so sums stay within the sum of the bounds. Cited by the builder's bounds.
 -- Assumes nothing.
 use mathlib.Core.Path.{_≡_, refl, sym, ap, _∙_, subst}
-use mathlib.Core.Bool.{Bool, true, false, not, _&&_, _||_, cond, true≢false}
-use Prim.Native.Nat.{ℕ, zero, suc, _+_, _-_, _*_, _^_, _≤_, _<_}
+use mathlib.Core.Bool.{Bool, true, false, not, _&&_, _||_, true≢false}
+use Prim.Native.Nat.{ℕ, _+_, _-_, _*_, _^_, _≤_, _<_}
 use native.Mathlib.Nat.{le-trans, le-of-eq, zero-lt-suc, mul-one, mul-comm, mul-assoc, mul-right-comm, add-mul, mul-le-mul-right, le-of-mul-le-mul-right, mul-pos}
 use native.Mathlib.Omega.{arith}
 use lib.Dec.{T, ltb, eqb, leb→le}
 use lib.Arith.{le→nltb}
-use lib.Ieee.{Float, nan, inf, fin, Format, binary64, prec, emax, low, up, down, odd, units, round, sum, add, le}
-use lib.Ieee.Fits.{down-pos, round-is}
+use lib.Ieee.{Float, nan, inf, fin, Format, binary64, prec, up, down, round, sum, add, le}
+use lib.Ieee.Fits.{down-pos}
 use lib.Ieee.Exact.{HasValue}
 use lib.Ieee.Back.{round-whole}
 use lib.Ieee.Order.{round-mono}
@@ -16,6 +16,7 @@ use lib.Ieee.Positive.{num, den, den-pos}
 use lib.Ieee.Bits.{cond-no}
 use Rattle.floats.proofs.Value.{add-values, like-signs, or-le}
 use Rattle.floats.specs.Within.{Within}
+use Rattle.floats.proofs.Laws.{round-as}
 
 pub within-value : (x : Float) (n : ℕ) → Within x n → HasValue x false (num x) (den x) × (num x ≤ n * den x)
 within-value nan n h = absurd h
@@ -29,21 +30,8 @@ unsigned nan = false
 unsigned (inf s) = not s
 unsigned (fin s m e) = not s
 
-odd-unsigned : (d q k l : ℕ) → T (unsigned (odd d false q k l))
-unfolding odd
-odd-unsigned d zero k l = tt
-odd-unsigned d (suc q) k l = tt
-
-units-unsigned : (f : Format) (q k : ℕ) → T (unsigned (units f false q k))
-unfolding units
-units-unsigned f q k = go (ltb (q * 2 ^ k) (2 ^ (low f + suc (emax f))))
-  where
-    go : (b : Bool) → T (unsigned (cond b (odd (suc (prec f)) false q k (low f)) (inf false)))
-    go true = odd-unsigned (suc (prec f)) q k (low f)
-    go false = tt
-
 pub round-unsigned : (f : Format) (a c : ℕ) → T (unsigned (round f false a c))
-round-unsigned f a c = subst (λ (x : Float). T (unsigned x)) (sym (round-is f false a c)) (units-unsigned f _ _)
+round-unsigned f a c = round-as (λ (x : Float). T (unsigned x)) f false a c (λ m e. tt) tt
 
 -- ---- the order against a whole number
 lt-or-eq : (a b : ℕ) → T (ltb a b || (eqb a b && true)) → a ≤ b

@@ -2,12 +2,12 @@
 use mathlib.Core.Path.{_≡_, refl, sym, ap, _∙_, subst}
 use mathlib.Core.Logic.{_⊎_, inl, inr}
 use mathlib.Core.Bool.{Bool, true, false, not, _&&_, cond, false≢true}
-use Prim.Native.Nat.{ℕ, zero, suc, _+_, _-_, _*_, _/_, _^_, _≤_, _<_, min}
+use Prim.Native.Nat.{ℕ, _+_, _-_, _*_, _/_, _^_, _≤_, _<_, min}
 use native.Mathlib.Nat.{le-trans, le-of-eq, le-of-lt, lt-of-le-of-lt, mul-one, zero-mul, mul-lt-mul-of-pos-right, div-lt-iff-lt-mul, zero-div, min-eq-left, min-eq-right}
 use native.Mathlib.Omega.{arith}
 use lib.Dec.{T, ltb, leb, lt→ltb, leb→le, le→leb, nleb→lt, nltb→le, lit≤, lit<}
-use lib.Ieee.{Float, nan, inf, fin, Format, binary64, prec, up, down, round, sum, add, sub, lt, odd, units, low, emax, ofBits, toUnsigned, inUnsigned, inFloat, ofInt}
-use lib.Ieee.Fits.{down-pos, round-is}
+use lib.Ieee.{Float, nan, inf, fin, Format, binary64, up, down, round, sum, add, sub, lt, ofBits, toUnsigned, inUnsigned, inFloat, ofInt}
+use lib.Ieee.Fits.{down-pos}
 use lib.Ieee.Back.{unsigned-back}
 use lib.Ieee.Positive.{num, den, den-pos}
 use Rattle.numbers.specs.Whole.{raised, whole, floor, ceil}
@@ -18,6 +18,7 @@ use Rattle.floats.proofs.Within.{within-value, within-add}
 use Rattle.numbers.specs.Window.{start, stop}
 use Rattle.numbers.proofs.Window.{floor-cast}
 use Rattle.floats.proofs.Integers.{int, int-within, within-sub}
+use Rattle.floats.proofs.Laws.{round-as}
 
 -- ---- the casts are in range
 whole-in : (n : ℕ) → n < 2 ^ 32 → T (inUnsigned binary64 32 (round binary64 false n 1))
@@ -52,21 +53,8 @@ minusSign nan = false
 minusSign (inf s) = s
 minusSign (fin s m e) = s
 
-odd-minus : (d q k l : ℕ) → T (minusSign (odd d true q k l))
-unfolding odd
-odd-minus d zero k l = tt
-odd-minus d (suc q) k l = tt
-
-units-minus : (f : Format) (q k : ℕ) → T (minusSign (units f true q k))
-unfolding units
-units-minus f q k = go (ltb (q * 2 ^ k) (2 ^ (low f + suc (emax f))))
-  where
-    go : (b : Bool) → T (minusSign (cond b (odd (suc (prec f)) true q k (low f)) (inf true)))
-    go true = odd-minus (suc (prec f)) q k (low f)
-    go false = tt
-
 pub round-minus : (f : Format) (a c : ℕ) → T (minusSign (round f true a c))
-round-minus f a c = subst (λ (x : Float). T (minusSign x)) (sym (round-is f true a c)) (units-minus f _ _)
+round-minus f a c = round-as (λ (x : Float). T (minusSign x)) f true a c (λ m e. tt) tt
 
 pub sub-sort : (x y : Float) (A B : ℕ) → Within x A → Within y B → A ≤ 2 ^ 53 → T (minusSign (sub binary64 x y)) ⊎ Within (sub binary64 x y) A
 sub-sort x y A B X Y l = go (leb bp aq) (leb→le bp aq) (nleb→lt bp aq)

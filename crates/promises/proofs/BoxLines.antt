@@ -1,4 +1,4 @@
--- Every window of a Box plan: n lines, each with the share 1 / n rounded once, and no slot above 1. Assumes nothing.
+-- Every window of a Box plan: n lines, each with the share 1 / n rounded once, and no slot above 1. Cited by BoxSet. Assumes nothing.
 use mathlib.Core.Path.{_≡_, refl, sym, ap, _∙_, subst}
 use mathlib.Core.Bool.{Bool, true, false}
 use Prim.Native.Nat.{ℕ, _+_, _^_, _≤_, _<_, zero-le}

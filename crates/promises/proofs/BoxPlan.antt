@@ -1,4 +1,4 @@
--- What a plan keeps of its request besides being sound: the filter that was asked for, and one over the filter scale, which is at most 1. Assumes nothing.
+-- What a plan keeps of its request besides being sound: the filter that was asked for, and one over the filter scale, which is at most 1. Cited by BoxSet. Assumes nothing.
 use mathlib.Core.Path.{_≡_, refl, sym, _∙_, subst}
 use mathlib.Core.Bool.{Bool, true, false, cond}
 use Prim.Native.Nat.{ℕ, _*_, _<_}

@@ -1,4 +1,4 @@
--- The precision of a set whose weights are at most 1: at least 30 in the 32-bit store. Assumes nothing.
+-- The precision of a set whose weights are at most 1: at least 30 in the 32-bit store. Cited by BoxPremise. Assumes nothing.
 use mathlib.Core.Path.{_≡_, refl, sym, ap, _∙_}
 use mathlib.Core.Bool.{Bool, true, false, cond}
 use mathlib.Core.List.{List, [], _∷_}

@@ -1,4 +1,4 @@
--- The lists of a Box set that was built: slot by slot the shares of `BoxLines`, none above 1, and the sizes. Assumes nothing.
+-- The lists of a Box set that was built: slot by slot the shares of `BoxLines`, none above 1, and the sizes. Cited by BoxPremise. Assumes nothing.
 use mathlib.Core.Path.{_≡_, sym, ap, _∙_, subst}
 use mathlib.Core.Bool.{false, _||_}
 use mathlib.Core.List.{List}

@@ -1,5 +1,5 @@
 -- A Box window: the filter's argument grows with the line, so the lines that weigh stand next to each other; each weighs 1, their total is their number n
--- exactly, and each share is 1 / n rounded once. Assumes nothing.
+-- exactly, and each share is 1 / n rounded once. Cited by BoxLines and BoxPlan. Assumes nothing.
 use mathlib.Core.Path.{_≡_, refl, sym, ap, _∙_, subst}
 use mathlib.Core.Bool.{Bool, true, false, not, cond}
 use Prim.Native.Nat.{ℕ, zero, suc, _+_, _-_, _*_, _^_, _≤_, _<_}
@@ -10,7 +10,6 @@ use lib.Dec.{T, lit≤}
 use lib.IntN.{ℤ}
 use lib.Ieee.{Float, nan, inf, fin, binary64, round, sub, mul, neg, le, eq, below, unlike, up, down, ofBits, ofInt}
 use lib.Ieee.Fits.{down-pos}
-use lib.Ieee.Exact.{HasValue}
 use lib.Ieee.Scale.{finite}
 use Rattle.lists.specs.Tab.{turns}
 use Rattle.floats.specs.Within.{Within, AtMost}
@@ -24,6 +23,7 @@ use Rattle.coefficients.proofs.WeightLaws.{up-le, up-last, up-past}
 use Rattle.coefficients.proofs.WindowLaws.{up-pos}
 use Rattle.promises.proofs.BoxFilter.{inBox, between, arg}
 use Rattle.floats.proofs.AtMost.{finite-at, within-at, round-at, mul-at, sub-at}
+use denote.Floats.{passes, is-true}
 
 pub none : zero64 ≡ int 0
 unfolding ofBits round
@@ -48,14 +48,6 @@ weighs-one false = refl
 
 pub box-weighs : (c r : Float) (x : ℕ) → weighs Box c r x ≡ inBox (arg c r x)
 box-weighs c r x = ap (λ (w : Float). not (eq w zero64)) (box-weight c r x) ∙ weighs-one (inBox (arg c r x))
-
-truth : (b : Bool) → T b → b ≡ true
-truth true t = refl
-truth false t = absurd t
-
-holds : (b : Bool) → b ≡ true → T b
-holds true h = tt
-holds false h = let z : _≡_ {A = ℕ} 0 1 = cc in absurd (omega arith)
 
 -- ---- the argument grows with the line, for a factor that is finite and has its sign clear
 level : (t s : Bool) (x y : ℕ) → x ≡ 0 → y ≡ 0 → T (not (below t x s y))
@@ -87,18 +79,15 @@ factor-mono x y (fin true m e) R p q h = absurd R
 factor-mono x y (fin false zero e) R p q h = zeros-level x y e p q
 factor-mono x y (fin false (suc m) e) R p q h = mul-mono-right binary64 x y (suc m) e p q (zero-lt-suc m) h
 
-holds-whole : (n : ℕ) → n ≤ 2 ^ 53 → HasValue (round binary64 false n 1) false n 1
-holds-whole n h = int-value n h
-
 module _ (c r : Float) (C : AtMost c (2 ^ 31)) (R : Within r 1) where
   difference : (x : ℕ) → x ≤ 8192 → AtMost (sub binary64 (int x) c) (8192 + 2 ^ 31)
   difference x h =
-      sub-at binary64 (int x) c 8192 (2 ^ 31) (round-at binary64 false x 1 8192 (zero-lt-suc 0) (holds-whole 8192 (lit≤ tt)) (le-trans h (le-of-eq (sym (mul-one 8192))))) C
-      (holds-whole (8192 + 2 ^ 31) (lit≤ tt))
+      sub-at binary64 (int x) c 8192 (2 ^ 31) (round-at binary64 false x 1 8192 (zero-lt-suc 0) (int-value 8192 (lit≤ tt)) (le-trans h (le-of-eq (sym (mul-one 8192))))) C
+      (int-value (8192 + 2 ^ 31) (lit≤ tt))
 
   argument : (x : ℕ) → x ≤ 8192 → T (finite (arg c r x))
   argument x h =
-      finite-at (arg c r x) ((8192 + 2 ^ 31) * 1) (mul-at binary64 (sub binary64 (int x) c) r (8192 + 2 ^ 31) 1 (difference x h) (within-at r 1 R) (holds-whole ((8192 + 2 ^ 31) * 1) (lit≤ tt)))
+      finite-at (arg c r x) ((8192 + 2 ^ 31) * 1) (mul-at binary64 (sub binary64 (int x) c) r (8192 + 2 ^ 31) 1 (difference x h) (within-at r 1 R) (int-value ((8192 + 2 ^ 31) * 1) (lit≤ tt)))
 
   grows : (x y : ℕ) → x ≤ y → y ≤ 8192 → T (le (arg c r x) (arg c r y))
   grows x y h l =
@@ -112,9 +101,9 @@ module _ (c r : Float) (C : AtMost c (2 ^ 31)) (R : Within r 1) where
   no-gap : (x y z : ℕ) → x ≤ y → y ≤ z → z ≤ 8192 → weighs Box c r x ≡ true → weighs Box c r z ≡ true → weighs Box c r y ≡ true
   no-gap x y z h k l a b =
       box-weighs c r y
-      ∙ truth (inBox (arg c r y))
+      ∙ is-true (inBox (arg c r y))
       (between (arg c r x) (arg c r y) (arg c r z) (argument x (omega arith)) (argument y (omega arith)) (argument z l) (grows x y h (omega arith)) (grows y z k l)
-      (holds (inBox (arg c r x)) (sym (box-weighs c r x) ∙ a)) (holds (inBox (arg c r z)) (sym (box-weighs c r z) ∙ b)))
+      (passes (inBox (arg c r x)) (sym (box-weighs c r x) ∙ a)) (passes (inBox (arg c r z)) (sym (box-weighs c r z) ∙ b)))
 
   -- ---- a window that starts at line a, where a line weighs, and holds m lines to 8,192 at most
   module _ (a m : ℕ) (end : a + m ≤ 8192) (some : 0 < m) (starts : weighs Box c r a ≡ true) where

@@ -4,6 +4,7 @@ use mathlib.Core.Path.{_≡_, refl, ap, _∙_}
 use mathlib.Core.Bool.{true, false}
 use mathlib.Core.List.{List}
 use Prim.Native.Nat.{ℕ, _≤_, _<_}
+use native.Mathlib.Omega.{arith}
 use lib.IntN.{ℤ}
 use lib.ListN.{length}
 use borrow.Author.Tests.{lt-ltb, le-ltb}
@@ -20,10 +21,10 @@ use Rattle.sheet.specs.Text.{sheetText}
 
 -- a room that is short of the text, by one byte or more, is refused; a room of the text's length or more is not
 short-room : (room text : ℕ) → room < text → noRoom room text ≡ true
-short-room room text h = lt-ltb room text h
+short-room room text h = lt-ltb _ text (omega (arith, h))
 
 enough-room : (room text : ℕ) → text ≤ room → noRoom room text ≡ false
-enough-room room text h = le-ltb room text h
+enough-room room text h = le-ltb _ text (omega (arith, h))
 
 module _ (kind : FilterType) (store : ℕ) (s : Set ℤ) (old : List ℕ) where
   -- the answer and the list at exit are the contract's
