@@ -6,6 +6,7 @@ pub(crate) fn to_u8(x: u64) -> u8 {
     x as u8
 }
 
+// So too for 16 bits.
 pub(crate) fn to_u16(x: u64) -> u16 {
     if 0xffff < x {
         return 0;
@@ -13,6 +14,7 @@ pub(crate) fn to_u16(x: u64) -> u16 {
     x as u16
 }
 
+// So too for 32 bits.
 pub(crate) fn to_u32(x: u64) -> u32 {
     if 0xffff_ffff < x {
         return 0;

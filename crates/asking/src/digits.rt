@@ -21,6 +21,7 @@ fn digit(b: u8) -> u8 {
     255
 }
 
+// A byte as a number of 64 bits.
 fn wide(b: u8) -> u64 {
     b as u64
 }
@@ -50,6 +51,7 @@ fn step16(v: u64, d: u64) -> Num {
     Num::Is(v * 16 + d)
 }
 
+// One digit more, of either kind.
 fn step(hex: bool, v: u64, b: u8, most: u64) -> Num {
     let d = wide(digit(b));
     if hex {
@@ -59,6 +61,7 @@ fn step(hex: bool, v: u64, b: u8, most: u64) -> Num {
     }
 }
 
+// The digits of the part, of either kind; Bad for none.
 fn digits(hex: bool, s: &[u8], a: usize, e: usize, most: u64) -> Num {
     if s.len() < e {
         return Num::Bad;

@@ -19,6 +19,7 @@ pub(crate) fn code(s: &[u8], a: usize, e: usize, most: u64) -> Num {
     positive(digits::decimal(s, a, e, most))
 }
 
+// The code of a number below 0, from its size; `-0` is Bad.
 fn negative(size: Num) -> Num {
     let Num::Is(x) = size else {
         return Num::Bad;
@@ -32,6 +33,7 @@ fn negative(size: Num) -> Num {
     Num::Is((x - 1) * 2 + 1)
 }
 
+// The code of a number from 0 on.
 fn positive(size: Num) -> Num {
     let Num::Is(x) = size else {
         return Num::Bad;
@@ -58,6 +60,7 @@ pub(crate) fn to_i16(code: u64) -> i16 {
     neg16(code / 2)
 }
 
+// x itself; 0 for what no code of an i32 has.
 pub(crate) fn pos32(x: u64) -> i32 {
     if 2147483647 < x {
         return 0;
@@ -65,6 +68,7 @@ pub(crate) fn pos32(x: u64) -> i32 {
     x as i32
 }
 
+// x itself; 0 for what no code of an i16 has.
 pub(crate) fn pos16(x: u64) -> i16 {
     if 32767 < x {
         return 0;

@@ -15,6 +15,7 @@ pub fn read(line: &[u8], w: Words, k: usize, out: &mut [u8]) -> usize {
     items(line, words::from(w, k), words::to(w, k), out)
 }
 
+// The elements of the part, between commas.
 fn items(s: &[u8], a: usize, e: usize, out: &mut [u8]) -> usize {
     if s.len() < e {
         return MALFORMED;

@@ -3,10 +3,12 @@ pub(crate) fn from_u8(x: u8) -> u64 {
     x as u64
 }
 
+// So too of 16 bits.
 pub(crate) fn from_u16(x: u16) -> u64 {
     x as u64
 }
 
+// So too of 32 bits.
 pub(crate) fn from_u32(x: u32) -> u64 {
     x as u64
 }
@@ -19,6 +21,7 @@ pub(crate) fn size(v: i32) -> u64 {
     v as u64
 }
 
+// A signed number of 16 bits as one of 32.
 pub(crate) fn from_i16(x: i16) -> i32 {
     x as i32
 }

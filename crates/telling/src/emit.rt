@@ -16,6 +16,7 @@ pub fn byte(b: u8, n: usize, out: &mut [u8]) -> usize {
     1
 }
 
+// A word, byte by byte.
 fn word(s: &[u8], n: usize, out: &mut [u8]) -> usize {
     let mut p = n;
     let mut i: usize = 0;

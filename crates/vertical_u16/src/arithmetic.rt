@@ -6,12 +6,14 @@ ghost use lib.IntN.{pos, natAbs, _+ℤ_, _*ℤ_};
 ghost use lib.Signed.{shrZ};
 ghost use Rattle.integers.specs.Sums.{clipped};
 
+// A weight in 64 bits.
 fn wide32(x: i32) -> i64
     ensures { λ r. ⌜ r ≡ x ⌝ }
 {
     x as i64
 }
 
+// A sample in 64 bits.
 fn wide16(s: u16) -> i64
     ensures { λ r. ⌜ r ≡ pos s ⌝ }
 {

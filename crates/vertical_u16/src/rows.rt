@@ -6,6 +6,7 @@ ghost use lib.ListN.{length, getD, take, drop};
 ghost use Rattle.vertical.specs.Ready.{Ready};
 ghost use Rattle.vertical_u16.specs.Column.{columnValue, windowValue};
 
+// A start or a size as an index.
 fn wide(x: u32) -> usize
     ensures { λ r. ⌜ r ≡ x ⌝ }
 {
