@@ -1,7 +1,7 @@
 -- A pass over a range of columns gives those columns of the pass over the whole row, since each value is that of its own column alone. `columns-cut` says it of
 -- the values, over any element type; `columns-cut-u16` and `columns-cut-f32` of the answers and the lists. Cited by the promises. Assumes nothing.
 use mathlib.Core.Path.{_≡_, sym, ap, _∙_}
-use mathlib.Core.Bool.{false}
+use mathlib.Core.Bool.{false, not}
 use mathlib.Core.List.{List}
 use Prim.Native.Nat.{ℕ, zero, suc, _+_, _*_, _/_, _%_, _≤_, _<_}
 use native.Mathlib.Nat.{zero-add, mul-zero, mod-lt, div-lt-iff-lt-mul}
@@ -13,11 +13,12 @@ use lib.ListN.{length, getD}
 use Rattle.lists.specs.Tab.{grid, any}
 use Rattle.lists.proofs.AnyLaws.{any-mono, any-part}
 use Rattle.lists.proofs.TabLaws.{tab-ext, getD-tab, grid-at}
+use Rattle.floats.specs.Doubles.{isFinite}
 use Rattle.windows.specs.Set.{Set, windows, size, sample}
 use Rattle.vertical.specs.declared.Passed.the-variants.{Done}
 use Rattle.vertical.specs.Frame.{frame, output, columns}
 use Rattle.vertical.specs.U16.{valueAt, passed16, written16}
-use Rattle.vertical.specs.F32.{unfinite, valueAt32, badLine, badSamples, passed32, written32}
+use Rattle.vertical.specs.F32.{valueAt32, badLine, badSamples, passed32, written32}
 use Rattle.vertical.proofs.Answers.{reshaped, tests16, tests32}
 
 pub some-column : (windows count k : ℕ) → k < windows * count → 0 < count
@@ -57,7 +58,7 @@ samples : (s : Set Float) (src : List Float) (row first count : ℕ) → first +
 samples s src row first count fit =
     any-mono (λ i. any (size s i) (badLine s src row 0 row i)) (λ i. any (size s i) (badLine s src row first count i)) (windows s)
     (λ i l. any-mono (badLine s src row 0 row i) (badLine s src row first count i) (size s i)
-    (λ k l h. any-part (λ j. unfinite (sample s (frame nan src row) i j k)) row first count fit (simp zero-add at h)))
+    (λ k l h. any-part (λ j. not (isFinite (sample s (frame nan src row) i j k))) row first count fit (simp zero-add at h)))
 
 module _ (s : Set Float) (src : List Float) (row : ℕ) (whole : List Float) (done : passed32 s src row 0 row (length whole) ≡ Done)
     (first count : ℕ) (list : List Float) (fit : first + count ≤ row) (rooms : length list ≡ windows s * count) where

@@ -1,13 +1,14 @@
 -- The f32 pass: its refusals in the order of their numbers, the value of a window at a column, and the output. Cited by the contract of `vertical_f32` and by
 -- the promises. Definitions only. Assumes nothing.
-use mathlib.Core.Bool.{Bool, true, false, cond, _||_}
+use mathlib.Core.Bool.{Bool, cond, not, _||_}
 use mathlib.Core.List.{List}
 use Prim.Native.Nat.{ℕ, _+_}
-use lib.Ieee.{Float, nan, inf, fin, binary64, add, mul, lt, ofBits, ofInt}
+use lib.Ieee.{Float, nan, binary64, add, mul, lt, ofBits, ofInt}
 use lib.IntN.{pos}
 use lib.ListN.{length}
 use Rattle.lists.specs.Tab.{any, turns}
 use Rattle.refusal.specs.declared.Refusal.the-variants.{BadSide, DoesNotFit, SampleOutside}
+use Rattle.floats.specs.Doubles.{isFinite}
 use Rattle.numbers.specs.Whole.{abs, narrow}
 use Rattle.windows.specs.Set.{Set, windows, size, weight, sample}
 use Rattle.vertical.specs.declared.Passed.{Passed}
@@ -15,18 +16,13 @@ use Rattle.vertical.specs.declared.Passed.the-variants.{Done, Refused}
 use Rattle.vertical.specs.Passed.{after}
 use Rattle.vertical.specs.Frame.{frame, output, sizeBad, shapeBad}
 
-abbrev pub unfinite : Float → Bool
-unfinite nan = true
-unfinite (inf s) = true
-unfinite (fin s m e) = false
-
 -- window i at column j: from +0 in line order, sample x weight added in binary64; narrowed at the end
 abbrev pub valueAt32 : Set Float → (ℕ → ℕ → Float) → ℕ → ℕ → Float
 valueAt32 s samples i j = narrow (turns (λ t k. add binary64 t (mul binary64 (sample s samples i j k) (weight s nan i k))) (ofBits binary64 0) (size s i))
 
 -- No. 12: a weight in use that is not finite, or above 2^64 in size
 abbrev pub badWeight : Set Float → ℕ → ℕ → Bool
-badWeight s i k = unfinite (weight s nan i k) || lt (ofInt binary64 (pos 18446744073709551616)) (abs (weight s nan i k))
+badWeight s i k = not (isFinite (weight s nan i k)) || lt (ofInt binary64 (pos 18446744073709551616)) (abs (weight s nan i k))
 
 abbrev pub badWeights : Set Float → Bool
 badWeights s = any (windows s) (λ i. any (size s i) (badWeight s i))
@@ -34,7 +30,7 @@ badWeights s = any (windows s) (λ i. any (size s i) (badWeight s i))
 module _ (s : Set Float) (src : List Float) (row first count : ℕ) where
   -- No. 12: a sample in use that is not finite, on line k of window i
   abbrev pub badLine : ℕ → ℕ → Bool
-  badLine i k = any count (λ j. unfinite (sample s (frame nan src row) i (first + j) k))
+  badLine i k = any count (λ j. not (isFinite (sample s (frame nan src row) i (first + j) k)))
 
   abbrev pub badSamples : Bool
   badSamples = any (windows s) (λ i. any (size s i) (badLine i))

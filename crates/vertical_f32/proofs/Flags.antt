@@ -14,11 +14,12 @@ use borrow.Author.Tests.{ltb-false, le-ltb}
 use Rattle.lists.specs.Tab.{any}
 use Rattle.lists.proofs.AnyLaws.{any-none, none-any}
 use Rattle.lists.proofs.BoolLaws.{never}
+use Rattle.floats.specs.Doubles.{isFinite}
 use Rattle.floats.specs.Within.{AtMost}
 use Rattle.floats.proofs.AtMost.{finite-at}
 use Rattle.numbers.specs.Whole.{abs}
 use Rattle.windows.specs.Set.{Set, windows, size, start}
-use Rattle.vertical.specs.F32.{unfinite, badWeight, badWeights, badLine, badSamples}
+use Rattle.vertical.specs.F32.{badWeight, badWeights, badLine, badSamples}
 use Rattle.vertical_f32.specs.Scan.{Samples, Lights, Weights}
 use Rattle.vertical_f32.proofs.Decided.{decided}
 
@@ -32,25 +33,25 @@ over : (m : ℕ) (e : ℤ) → lt (ofBits binary64 0x43f0000000000000) (fin fals
 unfolding lt ofBits
 over m e = refl
 
-weight-small : (w : Float) → unfinite w || lt (ofInt binary64 (pos 18446744073709551616)) (abs w) ≡ false → AtMost w (2 ^ 64)
+weight-small : (w : Float) → not (isFinite w) || lt (ofInt binary64 (pos 18446744073709551616)) (abs w) ≡ false → AtMost w (2 ^ 64)
 unfolding abs
 weight-small nan h = never h
 weight-small (inf s) h = never h
 weight-small (fin s m e) h = rw mul-one at (ltb-false (2 ^ 64 * down e) (m * up e * 1) (sym (over m e) ∙ ap (λ (x : Float). lt x (fin false m e)) (sym limit-is) ∙ h))
 
-small-weight : (w : Float) → AtMost w (2 ^ 64) → unfinite w || lt (ofInt binary64 (pos 18446744073709551616)) (abs w) ≡ false
+small-weight : (w : Float) → AtMost w (2 ^ 64) → not (isFinite w) || lt (ofInt binary64 (pos 18446744073709551616)) (abs w) ≡ false
 unfolding abs
 small-weight nan h = absurd h
 small-weight (inf s) h = absurd h
 small-weight (fin s m e) h =
     ap (λ (x : Float). lt x (fin false m e)) limit-is ∙ over m e ∙ le-ltb (2 ^ 64 * down e) (m * up e * 1) (rw mul-one h)
 
-sample-finite : (x : Float) → unfinite x ≡ false → T (finite x)
+sample-finite : (x : Float) → not (isFinite x) ≡ false → T (finite x)
 sample-finite nan h = never h
 sample-finite (inf s) h = never h
 sample-finite (fin s m e) h = tt
 
-finite-sample : (x : Float) → T (finite x) → unfinite x ≡ false
+finite-sample : (x : Float) → T (finite x) → not (isFinite x) ≡ false
 finite-sample nan h = absurd h
 finite-sample (inf s) h = absurd h
 finite-sample (fin s m e) h = refl
@@ -80,14 +81,14 @@ module _ (s : Set Float) where
     samples-good h i l k m j u =
         subst (λ (y : ℕ). T (finite (getD src y nan))) (place i k j)
         (sample-finite (getD src ((start s i + k) * row + (first + j)) nan)
-        (any-none (λ j. unfinite (getD src ((start s i + k) * row + (first + j)) nan)) count
+        (any-none (λ j. not (isFinite (getD src ((start s i + k) * row + (first + j)) nan))) count
         (any-none (badLine s src row first count i) (size s i) (any-none (λ i. any (size s i) (badLine s src row first count i)) (windows s) h i l) k m) j u))
 
     pub good-samples : Samples src row first count (s .starts) (s .sizes) → badSamples s src row first count ≡ false
     good-samples w =
         none-any (λ i. any (size s i) (badLine s src row first count i)) (windows s)
         (λ i l. none-any (badLine s src row first count i) (size s i)
-        (λ k m. none-any (λ j. unfinite (getD src ((start s i + k) * row + (first + j)) nan)) count
+        (λ k m. none-any (λ j. not (isFinite (getD src ((start s i + k) * row + (first + j)) nan))) count
         (λ j u. finite-sample (getD src ((start s i + k) * row + (first + j)) nan) (subst (λ (y : ℕ). T (finite (getD src y nan))) (sym (place i k j)) (w i l k m j u)))))
 
     -- the scan of the samples says what the flag says
