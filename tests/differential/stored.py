@@ -280,9 +280,9 @@ def passes(r):
                 yield u16(4, 1, 0, 1, 4, precision, weights, [0], [4], samples)
     for precision in (0, 3, 4, 45, 46, 2**32 - 1):
         yield u16(1, 1, 0, 1, 1, precision, [16], [0], [1], [9])
-    n = 300  # a long window
-    yield u16(n, 1, 0, 1, n, 45, [top] * n, [0], [n], [65535] * n)
-    yield u16(n, 1, 0, 1, n, 4, [low] * n, [0], [n], [65535] * n)
+    for n in (300, 8192):  # a long window, and the longest: no sum of an accepted set is larger
+        yield u16(n, 1, 0, 1, n, 45, [top] * n, [0], [n], [65535] * n)
+        yield u16(n, 1, 0, 1, n, 4, [low] * n, [0], [n], [65535] * n)
     big, inf = 0x7F7FFFFF, 0x7F800000
     for weights, samples in (([1.0, 1.0], [big, big]), ([2.0**64, 2.0**64], [big, big]), ([-(2.0**64), 0.0], [big, big]), ([0.5, 0.0], [1, 0]), ([-0.5, 0.0], [1, 0]),
                              ([-0.25, 0.0], [1, 0]), ([-0.75, 0.0], [1, 0]), ([0.5, 0.0], [3, 0]), ([0.5, 0.0], [5, 0]), ([-0.0, -0.0], [0x3F800000] * 2),
