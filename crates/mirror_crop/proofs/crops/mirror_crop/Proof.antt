@@ -1,0 +1,18 @@
+-- `mirror_crop`: the number of what `crop` gives. Assumes nothing.
+use mathlib.Core.Path.{_∙_, ap}
+use borrow.Author.Needs.{needs}
+use Rattle.crop_box.specs.Crop.{numberOf}
+use Rattle.mirror_crop.proofs.crops.mirror_crop.Statement.{statement}
+use Rattle.mirror_crop.proofs.crops.mirror_crop.Tie as tie
+
+crop-requires : tie.Need-crop-requires
+crop-requires c κs = search needs
+
+crop-number-requires : tie.Need-crop-number-requires
+crop-number-requires c κs = search needs
+
+returns : tie.Need-returns
+returns c = c .crop-number .ensures ∙ ap numberOf (c .before .crop .ensures)
+
+pub mirror-crop-spec : {M : Type 1} → statement M
+mirror-crop-spec = tie.close (tie.spec crop-requires crop-number-requires returns)

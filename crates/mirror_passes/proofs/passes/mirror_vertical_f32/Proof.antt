@@ -1,0 +1,22 @@
+-- `mirror_vertical_f32`: the number of the pass's answer, and its output. Assumes nothing.
+use mathlib.Core.Path.{_∙_, ap}
+use borrow.Author.Needs.{needs}
+use Rattle.vertical.specs.Passed.{numberOf}
+use Rattle.mirror_passes.proofs.passes.mirror_vertical_f32.Statement.{statement}
+use Rattle.mirror_passes.proofs.passes.mirror_vertical_f32.Tie as tie
+
+vert-convolution-f32-requires : tie.Need-vert-convolution-f32-requires
+vert-convolution-f32-requires c κs = search needs
+
+pass-number-requires : tie.Need-pass-number-requires
+pass-number-requires c κs = search needs
+
+same-length : tie.Need-same-length
+same-length c = search needs
+
+returns : tie.Need-returns
+returns c = let call = c .before .before .before .vert-convolution-f32 .ensures in (c .pass-number .ensures ∙ ap numberOf (call .0), call .1)
+
+pub mirror-vertical-f32-spec : {M : Type 1} → statement M
+mirror-vertical-f32-spec =
+    tie.close (tie.spec vert-convolution-f32-requires pass-number-requires same-length returns)

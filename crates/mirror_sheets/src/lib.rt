@@ -1,0 +1,2 @@
+// `mirror_sheets`: part of the C interface of include/mirror.h (docs/ARCHITECTURE.md). One archive is made of the parts by ./archive.
+mod sheets;
