@@ -5,11 +5,13 @@ usage: vectors.py PROGRAM IMAGEMAGICK PILLOW
 
 PROGRAM speaks the protocol (see `run`). IMAGEMAGICK has whole columns (`filter side out | samples | output`): each goes through
 build, norm32 and u16pass. PILLOW has weights of the 32-bit store (`kind side out p | start:weights ..`): each goes through build
-and norm32, and is compared as sparse rows. Every sample or weight that differs is listed; the last line is the summary.
+and norm32, and is compared as sparse rows. Every sample or weight that differs is listed; the last line is the summary. The status is 1 where
+something differs that known.py does not list, or something listed there does not differ.
 """
 import sys
 
-from generate import hex64, joined, window_size
+import known
+from generate import hex64, window_size
 from importlib.machinery import SourceFileLoader
 import os
 import subprocess
@@ -40,16 +42,16 @@ def imagemagick(program, path):
     made = list(sets(program, shapes))
     answers = asked(program, ["u16pass %d 1 0 1 %d %d %s %s %s %s %d" % (side, window, p, ws, starts, sizes, row[1].strip(), out)
                               for (_, side, out), (window, p, ws, starts, sizes), row in zip(shapes, made, rows)])
-    samples = differ = 0
+    samples, differ = 0, set()
     for (kind, side, out), row, answer in zip(shapes, rows, answers):
         theirs, ours = row[2].strip().split(","), answer[1].split(",")
         assert answer[0] == "0" and len(theirs) == len(ours) == out
         samples += out
         for i, (a, b) in enumerate(zip(theirs, ours)):
             if a != b:
-                differ += 1
+                differ.add((kind, side, out, i))
                 print("imagemagick kind=%s side=%d out=%d line=%d theirs=%s ours=%s" % (kind, side, out, i, a, b))
-    return "columns=%d samples=%d differ=%d" % (len(rows), samples, differ)
+    return "columns=%d samples=%d differ=%d" % (len(rows), samples, len(differ)), known.problems("imagemagick", differ, known.IMAGEMAGICK)
 
 
 def sparse(start, weights):
@@ -59,11 +61,10 @@ def sparse(start, weights):
 def pillow(program, path):
     rows = [l.split("|") for l in open(path) if not l.startswith("#")]
     shapes = [(w[0], int(w[1]), int(w[2])) for w in (r[0].split() for r in rows)]
-    windows = differ = other = 0
+    windows, differ, other = 0, set(), []
     for (kind, side, out), row, (window, p, ws, starts, sizes) in zip(shapes, rows, sets(program, shapes)):
         if p != int(row[0].split()[3]):
-            other += 1
-            print("pillow kind=%s side=%d out=%d precision theirs=%s ours=%d" % (kind, side, out, row[0].split()[3], p))
+            other.append("pillow: %s %d to %d, precision theirs=%s ours=%d" % (kind, side, out, row[0].split()[3], p))
         ws, starts, sizes = ([int(x) for x in text.split(",")] for text in (ws, starts, sizes))
         for i, text in enumerate(row[1].split()):
             at, theirs = text.split(":")
@@ -71,17 +72,21 @@ def pillow(program, path):
             ours = sparse(starts[i], ws[i * window:i * window + sizes[i]])
             windows += 1
             if theirs != ours:
-                differ += 1
+                differ.add((kind, side, out, i))
                 print("pillow kind=%s side=%d out=%d line=%d theirs=%s ours=%s" % (kind, side, out, i, theirs, ours))
-    return "sheets=%d windows=%d differ=%d precisions-differ=%d" % (len(rows), windows, differ, other)
+    wrong = known.problems("pillow", differ, known.PILLOW) + other
+    return "sheets=%d windows=%d differ=%d precisions-differ=%d" % (len(rows), windows, len(differ), len(other)), wrong
 
 
 def main():
     if len(sys.argv) != 4:
         sys.exit(__doc__)
     program, magick, pil = sys.argv[1:]
-    a, b = imagemagick(program, magick), pillow(program, pil)
-    print("imagemagick: %s; pillow: %s" % (a, b))
+    (a, wrong), (b, more) = imagemagick(program, magick), pillow(program, pil)
+    for line in wrong + more:
+        print(line)
+    print("imagemagick: %s; pillow: %s; unexplained=%d" % (a, b, len(wrong + more)))
+    sys.exit(1 if wrong + more else 0)
 
 
 if __name__ == "__main__":
