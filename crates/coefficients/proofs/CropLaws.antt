@@ -2,31 +2,19 @@
 -- edges within the side. Cited by PlanLaws. Assumes nothing.
 use mathlib.Core.Path.{_≡_, sym, ap, _∙_, subst}
 use mathlib.Core.Bool.{true, false, _&&_, _||_}
-use Prim.Native.Nat.{ℕ, zero, _≤_, _<_}
+use Prim.Native.Nat.{ℕ}
 use lib.IntN.{pos}
-use lib.Dec.{ltb}
-use borrow.Author.Tests.{ltb-false, not-false}
+use borrow.Author.Tests.{not-false}
 use lib.Ieee.{binary64, add, lt, le, ofInt}
+use Rattle.lists.specs.Ranges.{badSides}
 use Rattle.lists.proofs.BoolLaws.{or-left, or-right, and-left, and-right}
+use Rattle.lists.proofs.RangeLaws.{first-side, second-side}
 use Rattle.crop_box.specs.declared.CropBox.{CropBox}
 use Rattle.crop_box.specs.declared.Cropped.the-variants.{Inside}
-use Rattle.crop_box.specs.Crop.{cropOf, numberOf, boxOf, badSides, notFinite, negativeExtent, startOutside, endOutside}
+use Rattle.crop_box.specs.Crop.{cropOf, numberOf, boxOf, notFinite, negativeExtent, startOutside, endOutside}
 use Rattle.crop_box.proofs.Rows.{crop-0}
 use Rattle.floats.specs.Doubles.{isFinite, zero64}
 use Rattle.coefficients.proofs.Bounds.{Passed}
-
-sides-left : (w h : ℕ) → badSides w h ≡ false → (0 < w) × (w ≤ 8192)
-sides-left w h e =
-    let a = or-left (ltb w 1 || ltb 8192 w) (ltb h 1) (or-left ((ltb w 1 || ltb 8192 w) || ltb h 1) (ltb 8192 h) e) in
-    let x : 1 ≤ w = ltb-false w 1 (or-left (ltb w 1) (ltb 8192 w) a) in
-    let y : w ≤ 8192 = ltb-false 8192 w (or-right (ltb w 1) (ltb 8192 w) a) in
-    (x, y)
-
-sides-right : (w h : ℕ) → badSides w h ≡ false → (0 < h) × (h ≤ 8192)
-sides-right w h e =
-    let x : 1 ≤ h = ltb-false h 1 (or-right (ltb w 1 || ltb 8192 w) (ltb h 1) (or-left ((ltb w 1 || ltb 8192 w) || ltb h 1) (ltb 8192 h) e)) in
-    let y : h ≤ 8192 = ltb-false 8192 h (or-right ((ltb w 1 || ltb 8192 w) || ltb h 1) (ltb 8192 h) e) in
-    (x, y)
 
 pub record Both (w h : ℕ) (b : CropBox) : Type 0 where
   pub across : Passed (b .left) (b .width) w
@@ -51,8 +39,8 @@ both w h b e1 e2 e3 e4 e5 =
     let p2 = lt (ofInt binary64 (pos h)) (add binary64 (b .top) (b .height)) in
     record {
       across = record {
-        some = sides-left w h e1 .0;
-        few = sides-left w h e1 .1;
+        some = first-side w h e1 .least;
+        few = first-side w h e1 .most;
         near-finite = and-left fl ft two;
         width-finite = and-right (fl && ft) fw three;
         width-up = or-left (lt (b .width) zero64) (lt (b .height) zero64) e3;
@@ -61,8 +49,8 @@ both w h b e1 e2 e3 e4 e5 =
         far-in = or-left p1 p2 e5;
       };
       down = record {
-        some = sides-right w h e1 .0;
-        few = sides-right w h e1 .1;
+        some = second-side w h e1 .least;
+        few = second-side w h e1 .most;
         near-finite = and-right fl ft two;
         width-finite = and-right ((fl && ft) && fw) fh four;
         width-up = or-right (lt (b .width) zero64) (lt (b .height) zero64) e3;

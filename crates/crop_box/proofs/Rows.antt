@@ -1,10 +1,11 @@
 -- For the customer: each of No. 1 to 5 is given exactly when its row of document 01's table says so and no row before it does, and No. 0
--- exactly when no row does; so for every input one row applies and no other. The tests are those of specs/Crop.antt and specs/Fit.antt.
+-- exactly when no row does; so for every input one row applies and no other. The tests are `badSides` of `lists` and those of specs/Crop.antt and specs/Fit.antt.
 -- Cited by docs/CONTRACTS.md. Assumes nothing.
 use mathlib.Core.Path.{_≡_, refl}
 use mathlib.Core.Bool.{true, false}
 use Prim.Native.Nat.{ℕ}
-use Rattle.crop_box.specs.Crop.{badSides, notFinite, negativeExtent, startOutside, endOutside, cropOf, numberOf}
+use Rattle.lists.specs.Ranges.{badSides}
+use Rattle.crop_box.specs.Crop.{notFinite, negativeExtent, startOutside, endOutside, cropOf, numberOf}
 use Rattle.crop_box.specs.Fit.{largeSides, badCentring, fittedBox, acrossOf, downOf, fitOf, numberOf as fitNumberOf}
 use Rattle.crop_box.specs.declared.CropBox.{CropBox}
 use Rattle.crop_box.specs.declared.Centring.{Centring}

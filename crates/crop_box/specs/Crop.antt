@@ -1,20 +1,16 @@
--- The crop's answer: a test for each of No. 1 to 5, named as its row, and the answer by cases in the order of the numbers.
+-- The crop's answer: a test for each of No. 2 to 5, named as its row, and the answer by cases in the order of the numbers; No. 1 is `badSides` of `lists`.
 -- Cited by the contract of `crop`, by the weight builder and by the promises. Every comparison takes minus zero as 0.
 -- Definitions only. Assumes nothing.
 use mathlib.Core.Bool.{Bool, not, _||_, _&&_, cond}
 use Prim.Native.Nat.{ℕ}
-use lib.Dec.{ltb}
 use lib.Ieee.{lt, le}
+use Rattle.lists.specs.Ranges.{badSides}
 use Rattle.refusal.specs.Refusal.{numberOf as numberOfRefusal}
 use Rattle.refusal.specs.declared.Refusal.the-variants.{BadSide, NotFinite, NegativeExtent, StartOutside, EndOutside}
 use Rattle.floats.specs.Doubles.{isFinite, zero64, double, _plus_}
 use Rattle.crop_box.specs.declared.CropBox.{CropBox}
 use Rattle.crop_box.specs.declared.Cropped.{Cropped}
 use Rattle.crop_box.specs.declared.Cropped.the-variants.{Inside, Refused}
-
--- No. 1: a side of the camera image outside 1 to 8,192
-abbrev pub badSides : ℕ → ℕ → Bool
-badSides w h = ((ltb w 1 || ltb 8192 w) || ltb h 1) || ltb 8192 h
 
 -- No. 2: a crop number is NaN or infinite
 abbrev pub notFinite : CropBox → Bool

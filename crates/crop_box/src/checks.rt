@@ -1,16 +1,17 @@
 // The checks of `crop`: a function for each row of document 01's table, in its order.
 ghost use mathlib.Core.Path.{_≡_};
-ghost use Rattle.crop_box.specs.Crop.{cropOf, badSides, notFinite, negativeExtent, startOutside, endOutside};
+ghost use Rattle.lists.specs.Ranges.{badSides};
+ghost use Rattle.crop_box.specs.Crop.{cropOf, notFinite, negativeExtent, startOutside, endOutside};
 use crate::CropBox;
 use crate::Cropped;
-use crate::finite;
+use numbers::finite;
 use refusal::Refusal;
 
 // No. 1: a side outside 1 to 8,192.
 fn bad_sides(w: u32, h: u32) -> bool
     ensures answer { λ r. ⌜ r ≡ badSides w h ⌝ }
 {
-    (w < 1) | (8192 < w) | (h < 1) | (8192 < h)
+    ((w < 1) | (8192 < w)) | ((h < 1) | (8192 < h))
 }
 
 // No. 2: a number that is NaN or infinite.

@@ -5,8 +5,8 @@ use crate::Centring;
 use crate::CropBox;
 use crate::Fitted;
 use crate::clamp01;
-use crate::finite;
 use crate::ratios::ratio_box;
+use numbers::finite;
 use refusal::Refusal;
 
 // No. 1: a side above 8,192. A side of 0 is no refusal here.

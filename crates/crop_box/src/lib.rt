@@ -5,7 +5,6 @@ mod fitting;
 mod ratios;
 
 ghost use mathlib.Core.Path.{_≡_};
-ghost use Rattle.floats.specs.Doubles.{isFinite};
 ghost use Rattle.crop_box.specs.Fit.{clamped};
 pub use checks::crop;
 pub use fitting::fit_src_into_dst_size;
@@ -33,14 +32,6 @@ pub enum Centring {
 pub enum Fitted {
     Fit(CropBox),
     Refused(Refusal),
-}
-
-// Whether x is neither NaN nor infinite. A NaN fails both comparisons.
-fn finite(x: f64) -> bool
-    ensures answer { λ r. ⌜ r ≡ isFinite x ⌝ }
-{
-    let inf = 1.0 / 0.0;
-    (-inf < x) & (x < inf)
 }
 
 // x clamped to 0..1; minus zero stays as it is.

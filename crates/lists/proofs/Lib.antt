@@ -5,5 +5,6 @@ pub mod TurnLaws
 pub mod TextLaws
 pub mod StoreLaws
 pub mod BoolLaws
+pub mod RangeLaws
 pub mod SizeLaws
 pub mod Sure

@@ -1,6 +1,8 @@
 -- The contract of each helper decides its answer: two results that satisfy it are equal. Assumes nothing.
 use mathlib.Core.Path.{_∙_, sym}
 use Rattle.lists.proofs.Sure.{DecidesResult}
+use Rattle.numbers.proofs.finite.Kinds as finite
+use Rattle.numbers.proofs.finite.Reads as finite-reads
 use Rattle.numbers.proofs.abs.Kinds as abs
 use Rattle.numbers.proofs.abs.Reads as abs-reads
 use Rattle.numbers.proofs.floor.Kinds as floor
@@ -25,6 +27,9 @@ use Rattle.numbers.proofs.bits.widen_bits.Kinds as widen-bits
 use Rattle.numbers.proofs.bits.widen_bits.Reads as widen-bits-reads
 use Rattle.numbers.proofs.bits.narrow_bits.Kinds as narrow-bits
 use Rattle.numbers.proofs.bits.narrow_bits.Reads as narrow-bits-reads
+
+pub finite-decides : DecidesResult finite.ps finite.r finite-reads.Post
+finite-decides κs a x y s t p q = p ∙ sym q
 
 pub abs-decides : DecidesResult abs.ps abs.r abs-reads.Post
 abs-decides κs a x y s t p q = p ∙ sym q

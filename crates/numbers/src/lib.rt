@@ -1,4 +1,4 @@
-// `numbers`: document 01's number helpers. On values: `abs`, `floor`, `ceil`, `round` (half away from zero), `widen` (f32 to f64) and
+// `numbers`: document 01's number helpers. On values: `finite`, `abs`, `floor`, `ceil`, `round` (half away from zero), `widen` (f32 to f64) and
 // `narrow` (f64 to f32, ties to even). The same on bit patterns, `abs_bits` and so on, where every NaN gives the quiet NaN with sign and payload 0.
 // The roundings work by trial steps on the size |x| and put the sign back, so that a zero result has the argument's sign.
 mod bits;
@@ -7,6 +7,7 @@ mod steps;
 
 ghost use mathlib.Core.Path.{_≡_};
 ghost use lib.Ieee.{binary64};
+ghost use Rattle.floats.specs.Doubles.{isFinite};
 ghost use Rattle.numbers.specs.Whole.{abs as absF, floor as floorF, ceil as ceilF, roundAway as roundF, narrow as narrowF};
 pub use bits::abs_bits;
 pub use bits::ceil_bits;
@@ -14,6 +15,14 @@ pub use bits::floor_bits;
 pub use bits::narrow_bits;
 pub use bits::round_bits;
 pub use bits::widen_bits;
+
+// Whether x is neither NaN nor infinite. A NaN fails both comparisons.
+pub fn finite(x: f64) -> bool
+    ensures answer { λ r. ⌜ r ≡ isFinite x ⌝ }
+{
+    let inf = 1.0 / 0.0;
+    (-inf < x) & (x < inf)
+}
 
 // |x|: the sign bit cleared.
 pub fn abs(x: f64) -> f64

@@ -1,6 +1,6 @@
 -- `finite` meets its contract: a double lies between the infinities exactly where it is finite. Assumes nothing.
-use Rattle.crop_box.proofs.finite.Statement.{statement}
-use Rattle.crop_box.proofs.finite.Tie as tie
+use Rattle.numbers.proofs.finite.Statement.{statement}
+use Rattle.numbers.proofs.finite.Tie as tie
 use lib.Ieee.{neg, div, ofBits}
 use Rattle.floats.proofs.Doubles.{finite-between}
 
