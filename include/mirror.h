@@ -1,9 +1,9 @@
-/* The C interface of the proved library: target/staticlib/libmirror.a, built by `rt staticlib mirror`.
+/* The C interface of the proved library: target/staticlib/libmirror.a, built by `./mirror archive`.
  *
  * Every function takes any numbers and any lists, answers, and writes only what the table below allows. Nothing is allocated or kept
  * between calls. A list is a pointer and a count of elements; of an empty list the pointer is not followed, but must not be null.
- * What one call may write overlaps nothing else that is handed to it. The functions are those of crates/mirror, each proved against a
- * contract that decides every answer; docs/CONTRACTS.md has it in a sentence.
+ * What one call may write overlaps nothing else that is handed to it. The functions are those of the crates mirror_*, each proved against
+ * a contract that decides every answer; docs/CONTRACTS.md has it in a sentence.
  *
  * Numbers beside the answer (weight, left, top, width, height, window, line, precision, written) are always written, and are 0 on every
  * refusal, but for the line of No. 8.

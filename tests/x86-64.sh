@@ -17,4 +17,4 @@ run() {
     ${QEMU:+"$QEMU"} "$@"
 }
 
-[ -e "$library" ] || (cd "$root" && rt staticlib mirror)
+"$root/mirror" archive

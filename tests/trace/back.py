@@ -19,7 +19,7 @@ class Back:
                 self.by_law.setdefault(l, []).append(r.id)
             for e in links.cells.get(r.id, {}).get("edit", []):
                 self.by_edit.setdefault(e, []).append(r.id)
-        self.door = {w: f for f, ws in self.rules.doors.items() for kind, *names in ws if kind == "c" and not f.startswith("mirror::") for w in names}
+        self.door = {w: f for f, ws in self.rules.doors.items() for kind, *names in ws if kind == "c" and not tree.exports(f) for w in names}
         self.functions()
         self.definitions()
         self.promises()
@@ -49,11 +49,11 @@ class Back:
 
     def unrun(self, f):
         name = f.crate + "::" + f.name
-        return f.crate != "mirror" and not self.links.ways.of(name)
+        return not tree.exports(f.crate) and not self.links.ways.of(name)
 
     def rules_of(self, f):
         """Rules that name a function; an export has those of the library's function behind it."""
-        names = {f.crate + "::" + f.name, self.door.get(f.name, "") if f.crate == "mirror" else ""}
+        names = {f.crate + "::" + f.name, self.door.get(f.name, "") if tree.exports(f.crate) else ""}
         return [r.id for r in self.rules.all() if any(n in names for n, _ in r.fns)]
 
     def definitions(self):

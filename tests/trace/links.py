@@ -89,7 +89,7 @@ class Links:
         for label, e in t.edits.items():
             fn = t.fns.get(e.place) if isinstance(e.place, str) else None
             cited = set().union(*fn.clauses.values()) if fn and fn.clauses else set()
-            if not rule.only and e.crate != "mirror" and (e.place in rule.defs or cited & set(rule.defs)):
+            if not rule.only and not tree.exports(e.crate) and (e.place in rule.defs or cited & set(rule.defs)):
                 found.append(label)
         for label in rule.edits:
             if label not in t.edits:

@@ -67,7 +67,7 @@ class Page:
                 self.out.append("No rule: " + "; ".join("%s, %s (%s)" % (r.id, r.label.replace("; ", ", "), book.KINDS[r.kind]) for r in none) + ".\n")
 
     def way_back(self):
-        self.out.append("## The way back\n\nEdits here are those that docs/CONTRACTS.md names for the function. An export of `mirror` has the rules of the library's function behind it.\n")
+        self.out.append("## The way back\n\nEdits here are those that docs/CONTRACTS.md names for the function. An export, of a crate `mirror_*`, has the rules of the library's function behind it.\n")
         for crate in self.tree.crates:
             fns = [f for f in self.tree.public() if f.crate == crate]
             defs = [d for d in self.tree.defs if d[0] == crate]

@@ -9,6 +9,11 @@ Fn = collections.namedtuple("Fn", "crate file name public clauses asks start sto
 Edit = collections.namedtuple("Edit", "crate label file place problem")
 
 
+def exports(crate):
+    """Whether a crate holds functions of include/mirror.h."""
+    return crate.startswith("mirror_")
+
+
 def functions(root, crate):
     here = os.path.join(root, "crates", crate, "src")
     for name in sorted(os.listdir(here)):

@@ -1,5 +1,5 @@
 -- Codes of the C interface: what each names, and the answers where a code may name nothing. No. 100 exists here only; it is judged first, and the numbers
--- beside it are 0. Cited by the contracts of `mirror`. Definitions only. Assumes nothing.
+-- beside it are 0. Cited by the contracts of `codes`, `mirror_crop`, `mirror_sets` and `mirror_sheets`. Definitions only. Assumes nothing.
 use mathlib.Core.Bool.{Bool, cond, _||_}
 use Prim.Native.Nat.{ℕ}
 use lib.Dec.{ltb, eqb}

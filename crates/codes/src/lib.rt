@@ -1,11 +1,12 @@
-// Codes of include/mirror.h: what each names.
+// `codes`: the numbers of include/mirror.h that stand for a filter, an axis and a centring, and what each names. The crates `mirror_*` share it; each answers
+// a code that names nothing itself, with `badCode`, before it asks here.
 ghost use mathlib.Core.Path.{_≡_};
 ghost use Rattle.codes.specs.Codes.{filterOf, axisOf, centringOf};
 use coefficients::Axis;
 use crop_box::Centring;
 use filters::FilterType;
 
-// 0 to 3; what a larger code gives is never asked for.
+// The filter of a code: 0 Box, 1 Bilinear, 2 CatmullRom, else Mitchell, whose code is 3. No caller asks with a code above 3.
 pub fn filter_named(code: u32) -> FilterType
     ensures answer { λ r. ⌜ r ≡ filterOf code ⌝ }
 {
@@ -21,7 +22,7 @@ pub fn filter_named(code: u32) -> FilterType
     FilterType::Mitchell
 }
 
-// 0 across, 1 down.
+// The axis of a code: 0 across, else down, whose code is 1. No caller asks with a code above 1.
 pub fn axis_named(code: u32) -> Axis
     ensures answer { λ r. ⌜ r ≡ axisOf code ⌝ }
 {
@@ -31,7 +32,7 @@ pub fn axis_named(code: u32) -> Axis
     Axis::Down
 }
 
-// 0 absent, 1 the two numbers.
+// The centring of a flag: 0 absent, else the two numbers. No caller asks with a flag above 1.
 pub fn centring_named(code: u32, across: f64, down: f64) -> Centring
     ensures answer { λ r. ⌜ r ≡ centringOf code across down ⌝ }
 {

@@ -1,0 +1,18 @@
+-- The contract of every public function decides its answer. Cited by docs/CONTRACTS.md. Assumes nothing.
+use mathlib.Core.Path.{_∙_, sym}
+use Rattle.lists.proofs.Sure.{DecidesResult}
+use Rattle.codes.proofs.filter_named.Kinds as filter
+use Rattle.codes.proofs.filter_named.Reads as filter-reads
+use Rattle.codes.proofs.axis_named.Kinds as axis
+use Rattle.codes.proofs.axis_named.Reads as axis-reads
+use Rattle.codes.proofs.centring_named.Kinds as centring
+use Rattle.codes.proofs.centring_named.Reads as centring-reads
+
+pub filter-named-decides : DecidesResult filter.ps filter.r filter-reads.Post
+filter-named-decides κs a x y s t p q = p ∙ sym q
+
+pub axis-named-decides : DecidesResult axis.ps axis.r axis-reads.Post
+axis-named-decides κs a x y s t p q = p ∙ sym q
+
+pub centring-named-decides : DecidesResult centring.ps centring.r centring-reads.Post
+centring-named-decides κs a x y s t p q = p ∙ sym q
