@@ -32,9 +32,9 @@ class Back:
             if not f.public:
                 continue
             if not f.clauses:
-                if not any("`%s`" % w in c.exceptions for w in (f.crate, f.crate.split("_")[0] + "_*")):
-                    self.problems.append("%s has no contract, and docs/CONTRACTS.md, Exceptions, does not name its crate" % name)
                 continue
+            if not c.edits.get(name):
+                self.problems.append("no must-fail edit changes %s or what its contract rests on" % name)
             if self.unrun(f) and name not in self.rules.doors:
                 self.problems.append("rules.txt has no door for %s: how is it run?" % name)
             if not self.rules_of(f):

@@ -1,42 +1,75 @@
-"""docs/CONTRACTS.md: for each public function the edits that its row names, and every edit that the page names."""
+"""docs/CONTRACTS.md: a row for each public function. Its last column, the must-fail edits that a function's contract rules out, is made here from the tree."""
+import os
 import re
 
 import tree
 
+SHOWN = 5  # labels in a cell; the rest are counted
+
+
+def reached(t, crate):
+    """For each public function of a crate: the functions and constants that it calls or names, and theirs, and the definitions that their contracts rest on."""
+    here, names, bodies = crate + "::", {}, {}
+    for f in [f for f in t.fns.values() if f.crate == crate]:
+        names.setdefault(f.name, []).append(here + f.name)
+        bodies[here + f.name] = tree.read(t.root, "crates", crate, "src", f.file)[f.start:f.stop].replace("Self::", f.name.split("::")[0] + "::")
+    for file, name, start, stop in tree.constants(t.root, crate):
+        names.setdefault(name, []).append(here + name)
+        bodies[here + name] = tree.read(t.root, "crates", crate, "src", file)[start:stop]
+    calls = {k: {x for w in set(re.findall(r"\w+", b)) | set(re.findall(r"\w+::\w+", b)) for x in names.get(w, []) if x != k} for k, b in bodies.items()}
+    for f in [f for f in t.public() if f.crate == crate]:
+        seen, todo = set(), [here + f.name]
+        while todo:
+            x = todo.pop()
+            if x not in seen:
+                seen.add(x)
+                todo += calls[x]
+        inner = [t.fns[x] for x in seen if x in t.fns]
+        said = set().union(*(d for g in inner for d in [*g.clauses.values(), g.asks]))
+        yield here + f.name, seen | t.reach(said)
+
+
+def of_functions(t):
+    """The labels of each public function: edits of its crate that change it, what it calls, or a definition that its contract rests on; those of its own code first."""
+    rows = {}
+    for crate in t.crates:
+        edits = [(label, e) for label, e in t.edits.items() if e.crate == crate]
+        for name, places in reached(t, crate):
+            found = [label for label, e in edits if e.places & places]
+            rows[name] = sorted(found, key=lambda l: (name not in t.edits[l].places, not isinstance(t.edits[l].place, str), l))
+    return rows
+
+
+def cell(labels):
+    shown = ", ".join("`%s`" % l.split("/")[1] for l in labels[:SHOWN])
+    return shown + (" and %d more" % (len(labels) - SHOWN) if len(labels) > SHOWN else "")
+
 
 class Contracts:
-    def __init__(self, root, crates, edits, fns):
-        text = tree.read(root, "docs", "CONTRACTS.md")
-        self.rows, self.cited, self.gone, crate = {}, set(), [], None
-        text, _, self.exceptions = text.partition("## Exceptions")
-        for line in text.splitlines():
+    def __init__(self, root, t):
+        self.place = os.path.join(root, "docs", "CONTRACTS.md")
+        self.there = tree.read(self.place)
+        self.edits, self.rows, self.cited, self.out, crate = of_functions(t), {}, set(), [], None
+        self.cited.update(label for labels in self.edits.values() for label in labels)
+        head, _, self.exceptions = self.there.partition("## Exceptions")
+        for line in head.splitlines():
             m = re.match(r"#+ (\w+)", line)
-            if m:
-                crate = m.group(1)
+            crate = m.group(1) if m else crate
             cells = line.strip("|").split(" | ") if line.startswith("|") else []
             if len(cells) > 3 and "`" in cells[0]:
-                found = self.labels(crate, cells[3], crates, edits, fns)
-                for name in re.findall(r"`([\w:]+)`", cells[0]):
-                    self.rows[crate + "::" + name] = found
+                names = [crate + "::" + n for n in re.findall(r"`([\w:]+)`", cells[0])]
+                self.rows.update((n, self.edits.get(n, [])) for n in names)
+                cells[3:] = [cell(list(dict.fromkeys(l for n in names for l in self.edits.get(n, []))))]
+                line = "|" + " | ".join(cells) + " |"
             else:
-                self.cited.update(crate + "/" + t for t in re.findall(r"`(\w+)`", line) if crate and crate + "/" + t in edits)
+                self.cited.update(crate + "/" + w for w in re.findall(r"`(\w+)`", line) if crate and crate + "/" + w in t.edits)
+            self.out.append(line)
+        self.text = "\n".join(self.out) + "\n" + ("\n" if not head.endswith("\n\n") and _ else "") + _ + self.exceptions
 
-    def labels(self, crate, cell, crates, edits, fns):
-        """The edits of a cell; a crate's name in it says where the next one is, and a function's name is none."""
-        found, where = [], crate
-        for word in re.findall(r"`(\w+)`", cell):
-            if word in crates and crate + "/" + word not in edits:
-                where = word
-                continue
-            if crate + "::" + word in fns:
-                continue
-            label, where = where + "/" + word, crate
-            if label in edits:
-                found.append(label)
-                self.cited.add(label)
-            else:
-                self.gone.append("docs/CONTRACTS.md, %s: names the edit %s, which is not in the tree" % (crate, label))
-        return found
+    def without(self):
+        """The crates whose public functions have no contract, by the page's own line."""
+        m = re.search(r"(?m)^Crates without contracts: (.*)\.$", self.exceptions)
+        return re.findall(r"\w+", m.group(1)) if m else []
 
 
 def decides(fn):

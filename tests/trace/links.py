@@ -10,9 +10,9 @@ import ways
 class Links:
     def __init__(self, root, rules):
         self.root, self.rules, self.tree = root, rules, tree.Tree(root)
-        self.contracts = contracts.Contracts(root, self.tree.crates, self.tree.edits, self.tree.fns)
+        self.contracts = contracts.Contracts(root, self.tree)
         self.ways = ways.Ways(root, rules)
-        self.problems = list(self.contracts.gone)
+        self.problems = []
         self.cells = {r.id: self.look(r) for r in rules.all() if not r.kind}
 
     def bad(self, rule, text):
@@ -34,6 +34,9 @@ class Links:
             "edit": self.edits(rule),
         }
         cells["run"], wrong = self.ways.cell(rule)
+        if rule.every:
+            cells["run"].append("[tests/trace/run](../tests/trace/run) looks at every public function")
+            wrong += self.bare()
         for w in wrong:
             self.bad(rule, w)
         for cell in book.CELLS:
@@ -45,6 +48,16 @@ class Links:
             if reason is not None and reason not in self.rules.reasons:
                 self.bad(rule, "no such reason: " + reason)
         return cells
+
+    def bare(self):
+        """Public functions without a contract outside the crates that docs/CONTRACTS.md names as such, and crates that it names without need."""
+        named, bare = self.contracts.without(), [f for f in self.tree.fns.values() if f.public and not f.clauses]
+        for f in bare:
+            if f.crate not in named:
+                yield "%s::%s has no contract, and docs/CONTRACTS.md does not name its crate among those without" % (f.crate, f.name)
+        for crate in named:
+            if crate not in [f.crate for f in bare]:
+                yield "docs/CONTRACTS.md names the crate %s among those without contracts, but no public function of it lacks one" % crate
 
     def contract(self, rule):
         """(function, clauses, roots): roots are the definitions in the clause from which the rule's own are reached, where none is cited itself."""

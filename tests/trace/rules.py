@@ -9,7 +9,7 @@ class Rule:
     def __init__(self, ident, kind, label):
         self.id, self.kind, self.label = ident, kind, label
         self.defs, self.fns, self.laws, self.edits, self.code, self.runs, self.lines, self.pixels = [], [], [], [], [], [], [], []
-        self.only, self.answer, self.no, self.but = False, None, {}, None
+        self.only, self.answer, self.no, self.but, self.every = False, None, {}, None, False
 
     def add(self, key, rest):
         if key == "def":
@@ -35,6 +35,8 @@ class Rule:
             self.lines.append(tuple(rest.split(" -> ")))
         elif key == "answer":
             self.answer = rest
+        elif key == "every":
+            self.every = True
         elif key == "but":
             self.but = rest
         elif key == "no":

@@ -6,7 +6,7 @@ import re
 from antt import definitions, imports, laws, named, read
 
 Fn = collections.namedtuple("Fn", "crate file name public clauses asks start stop")
-Edit = collections.namedtuple("Edit", "crate label file place problem")
+Edit = collections.namedtuple("Edit", "crate label file place problem places")  # the place of its last change, and of each
 
 
 def exports(crate):
@@ -37,25 +37,37 @@ def functions(root, crate):
                 fn = None
 
 
+def constants(root, crate):
+    """(file, name, start, stop) of each constant of a crate's code; one of an `impl` has its owner's name before it."""
+    here = os.path.join(root, "crates", crate, "src")
+    for file in sorted(os.listdir(here)):
+        text = read(here, file)
+        for m in re.finditer(r"(?ms)^( *)(?:pub(?:\(crate\))? )?(?:const|static) (\w+)\b.*?;$", text):
+            owner = re.findall(r"(?m)^impl (\w+)", text[:m.start()])[-1] + "::" if m.group(1) else ""
+            yield file, owner + m.group(2), m.start(), m.end()
+
+
 def edits(root, crate, defs, fns):
-    here = os.path.join(root, "crates", crate, "must-fail")
+    here, items = os.path.join(root, "crates", crate, "must-fail"), list(constants(root, crate))
     for name in sorted(os.listdir(here)) if os.path.isdir(here) else []:
         lines = read(here, name).splitlines()
         file = lines[0][len("file: "):]
-        text, place, problem = read(root, "crates", crate, file), None, None
+        text, place, problem, places = read(root, "crates", crate, file), None, None, set()
+        given = text
         for line in lines[1:]:
             if line.startswith("old: "):
                 old = line[5:]
                 if text.count(old) != 1:
                     problem = "its old text stands %d times in %s" % (text.count(old), file)
-                place = holder(crate, file, text.find(old), defs, fns)
+                place = holder(crate, file, given.find(old) if old in given else text.find(old), defs, fns, items)
+                places.add(place)
             elif line.startswith("new: "):
                 text = text.replace(old, line[5:], 1)
-        yield Edit(crate, name[:-5], file, place, problem)
+        yield Edit(crate, name[:-5], file, place, problem, places - {None})
 
 
-def holder(crate, file, at, defs, fns):
-    """The definition or function in which a place of a file lies."""
+def holder(crate, file, at, defs, fns, items):
+    """The definition, function or constant in which a place of a file lies."""
     base = os.path.basename(file)
     for d in defs:
         if d.crate == crate and file == "specs/%s.antt" % d.file and d.start <= at < d.stop:
@@ -63,6 +75,9 @@ def holder(crate, file, at, defs, fns):
     for f in fns:
         if f.crate == crate and file == "src/" + base and f.file == base and f.start <= at < f.stop:
             return f.crate + "::" + f.name
+    for base_of, name, start, stop in items:
+        if file == "src/" + base_of and start <= at < stop:
+            return crate + "::" + name
     return None
 
 
