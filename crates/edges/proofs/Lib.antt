@@ -1,4 +1,3 @@
-pub mod DigitLaws
 pub mod EdgeLaws
 pub mod Examples
 pub mod Sure

@@ -4,9 +4,9 @@ ghost use mathlib.Core.Bool.{true};
 ghost use Prim.Native.Nat.{_^_, _≤_};
 ghost use lib.Ieee.{binary64, round};
 ghost use Rattle.edges.specs.Edge.{minus, wholeAt, pointAt, fractionAt, beforeOf, placesOf, isDecimal, wholeOf};
-use crate::digits::all_digits;
 use crate::digits::continued;
 use std::num::nearest_u64_to_f64;
+use text::all_digits;
 
 // Whether the text begins with a minus sign.
 fn minus(text: &[u8]) -> bool

@@ -3,8 +3,8 @@ ghost use mathlib.Core.Path.{_≡_};
 ghost use mathlib.Core.Bool.{true};
 ghost use lib.Ieee.{binary64, ofBits};
 ghost use Rattle.edges.specs.Edge.{isPattern, patternOf};
-use crate::digits::all_digits;
 use crate::digits::continued;
+use text::all_digits;
 
 // Whether the text has the form of a pattern.
 pub(crate) fn is_pattern(text: &[u8]) -> bool

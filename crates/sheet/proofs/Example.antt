@@ -4,11 +4,11 @@ use mathlib.Core.Path.{_≡_, refl}
 use mathlib.Core.List.{List, [], _∷_, _++_}
 use Prim.Native.Nat.{ℕ}
 use lib.IntN.{ℤ, pos, negsuc}
-use Rattle.lists.specs.Text.{digitCount, decimal, signed}
+use Rattle.text.specs.Text.{digitCount, decimal, signed, fieldText, lineText}
 use Rattle.filters.specs.declared.FilterType.the-variants.{Box}
 use Rattle.windows.specs.Set.{setOf}
 use Rattle.sheet.specs.Keys.{kindName}
-use Rattle.sheet.specs.Text.{kindText, sidesText, storeText, headText, itemText, weightsText, openText, windowAt, windowsText, sheetText, fieldText, lineText}
+use Rattle.sheet.specs.Text.{kindText, sidesText, storeText, headText, itemText, weightsText, openText, windowAt, windowsText, sheetText}
 
 -- two windows of two lines, three slots each
 abbrev weights : List ℤ

@@ -4,30 +4,22 @@ use mathlib.Core.Path.{_≡_, ap, _∙_}
 use mathlib.Core.Bool.{Bool, true, false, cond}
 use mathlib.Core.List.{List, []}
 use Prim.Native.Nat.{ℕ, _+_, _*_, _^_, _≤_, _<_}
-use native.Mathlib.Nat.{le-trans, mul-le-mul-right, zero-add}
+use native.Mathlib.Nat.{le-trans, mul-le-mul-right}
 use native.Mathlib.Omega.{arith}
-use lib.Dec.{eqb}
+use lib.Dec.{eqb, lit<}
 use lib.IntN.{ℤ, pos}
 use lib.ListN.{length, getD, set, length-append}
 use mir.Facts.{toZ-ofZ}
 use mir.Syntax.{Width, w64}
 use mir.Val.{SFits, toZ, ofZ}
-use Rattle.lists.specs.Text.{laid, joined, decimal, signed}
-use Rattle.lists.proofs.TextLaws.{Laid, laid-none, laid-then, laid-byte, laid-piece, decimal-small, signed-small, joined-small}
+use Rattle.text.specs.Text.{laid, reached, joined, signed, fieldText, lineText}
+use Rattle.text.proofs.TextLaws.{reached-whole, Laid, laid-none, laid-here, laid-then, laid-byte, laid-piece, signed-small, joined-small, field-small, line-small}
 use Rattle.filters.specs.declared.FilterType.{FilterType}
 use Rattle.filters.specs.declared.FilterType.the-variants.{Box, Bilinear, CatmullRom, Mitchell}
 use Rattle.windows.specs.Set.{Set, windows}
 use Rattle.sheet.specs.Keys.{keyIn, keyOut, keyWindow, keyStore, keyPrecision, keyLine, equals, comma, newline, kindName}
-use Rattle.sheet.specs.Text.{fieldText, lineText, kindText, sidesText, storeText, headText, itemText, weightAt, weightsText, openText, windowAt, windowsText, sheetText}
+use Rattle.sheet.specs.Text.{kindText, sidesText, storeText, headText, itemText, weightAt, weightsText, openText, windowAt, windowsText, sheetText}
 use Rattle.sheet.proofs.JudgeLaws.{Passed}
-
-field-small : (key : List ℕ) (n : ℕ) → length (fieldText key n) ≤ length key + 20
-unfolding fieldText
-field-small key n = omega (arith, length-append key (decimal n), decimal-small n)
-
-line-small : (key : List ℕ) (n : ℕ) → length (lineText key n) ≤ length key + 21
-unfolding lineText
-line-small key n = omega (arith, length-append (fieldText key n) newline, field-small key n)
 
 name-small : (kind : FilterType) → length (kindName kind) ≤ 10
 unfolding kindName
@@ -70,36 +62,35 @@ windows-small s p =
     le-trans (joined-small (windowAt (s .starts) (s .sizes) (s .window) (s .weights)) 200000 (windows s) (λ k l. window-small (s .starts) (s .sizes) (s .window) (s .weights) k (p .short k l)))
     (mul-le-mul-right 200000 (p .few))
 
-pub sheet-small : (kind : FilterType) (store : ℕ) (s : Set ℤ) → Passed s → length (sheetText kind store s) < 2 ^ 64
+sheet-small : (kind : FilterType) (store : ℕ) (s : Set ℤ) → Passed s → length (sheetText kind store s) < 2 ^ 64
 unfolding sheetText
 sheet-small kind store s p =
     let head = headText kind (s .lines) (windows s) (s .window) store (s .precision) in
     let rest = windowsText (s .starts) (s .sizes) (s .window) (s .weights) in
     omega (arith, length-append head rest, head-small kind (s .lines) (windows s) (s .window) store (s .precision), windows-small s p)
 
+-- so a run over any list counts it whole
+pub sheet-counted : (kind : FilterType) (store : ℕ) (s : Set ℤ) → Passed s → reached 0 (length (sheetText kind store s)) ≡ length (sheetText kind store s)
+sheet-counted kind store s p = reached-whole (length (sheetText kind store s)) (sheet-small kind store s p)
+
 -- a weight read from a list of either width and widened is itself
 pub wide-back : (w : Width) (x : ℤ) → SFits w x → SFits w64 x → toZ w64 (ofZ w64 (toZ w (ofZ w x))) ≡ x
 wide-back w x f g = ap (λ (z : ℤ). toZ w64 (ofZ w64 z)) (toZ-ofZ f) ∙ toZ-ofZ g
 
--- what a window's line needs is what its parts need
-pub window-parts : (starts sizes : List ℕ) (window : ℕ) (ws : List ℤ) (i p limit : ℕ) → p + length (windowAt starts sizes window ws i) < limit → p + (length (openText i (getD starts i 0) (getD sizes i 0)) + length (weightsText ws (i * window) (getD sizes i 0))) + 1 < limit
-unfolding windowAt
-window-parts starts sizes window ws i p limit h = omega (arith, simp length-append at h)
-
 -- a window's line more: its beginning, its weights and a newline, one after the other
-pub line-more : (starts sizes : List ℕ) (window : ℕ) (ws : List ℤ) (i from : ℕ) {at p a b q : ℕ} {old now o1 o2 new : List ℕ} → from ≡ i * window → Laid at (joined (windowAt starts sizes window ws) i) old p now → a ≡ p + length (openText i (getD starts i 0) (getD sizes i 0)) → o1 ≡ laid now p (openText i (getD starts i 0) (getD sizes i 0)) → b ≡ a + length (weightsText ws from (getD sizes i 0)) → o2 ≡ laid o1 a (weightsText ws from (getD sizes i 0)) → q ≡ b + 1 → new ≡ set o2 b 10 → Laid at (joined (windowAt starts sizes window ws) (i + 1)) old q new
+pub line-more : (starts sizes : List ℕ) (window : ℕ) (ws : List ℤ) (i from : ℕ) {at p a b q : ℕ} {old now o1 o2 new : List ℕ} → from ≡ i * window → Laid at (joined (windowAt starts sizes window ws) i) old p now → a ≡ reached p (length (openText i (getD starts i 0) (getD sizes i 0))) → o1 ≡ laid now p (openText i (getD starts i 0) (getD sizes i 0)) → b ≡ reached a (length (weightsText ws from (getD sizes i 0))) → o2 ≡ laid o1 a (weightsText ws from (getD sizes i 0)) → q ≡ reached b 1 → new ≡ set o2 b 10 → Laid at (joined (windowAt starts sizes window ws) (i + 1)) old q new
 unfolding windowAt
 line-more starts sizes window ws i from {p = p} {now = now} first before e-a e-1 e-b e-2 e-q e =
     let size = getD sizes i 0 in
-    let l1 = laid-then (openText i (getD starts i 0) size) (laid-none p now) e-a e-1 in
+    let l1 = laid-then (openText i (getD starts i 0) size) (laid-here before) e-a e-1 in
     let l2 = laid-then (weightsText ws (i * window) size) l1 (e-b ∙ rw first) (e-2 ∙ rw first) in
     let l3 = laid-byte 10 l2 e-q e in
     laid-piece (windowAt starts sizes window ws) i before (l3 .place) (l3 .is)
 
 -- the head and the windows' lines are the whole sheet
-pub whole : (kind : FilterType) (store : ℕ) (s : Set ℤ) (old : List ℕ) {p q : ℕ} {now new : List ℕ} → p ≡ 0 + length (headText kind (s .lines) (windows s) (s .window) store (s .precision)) → now ≡ laid old 0 (headText kind (s .lines) (windows s) (s .window) store (s .precision)) → q ≡ p + length (windowsText (s .starts) (s .sizes) (s .window) (s .weights)) → new ≡ laid now p (windowsText (s .starts) (s .sizes) (s .window) (s .weights)) → (q ≡ length (sheetText kind store s)) × (new ≡ laid old 0 (sheetText kind store s))
+pub whole : (kind : FilterType) (store : ℕ) (s : Set ℤ) (old : List ℕ) {p q : ℕ} {now new : List ℕ} → length old < 2 ^ 64 → p ≡ reached 0 (length (headText kind (s .lines) (windows s) (s .window) store (s .precision))) → now ≡ laid old 0 (headText kind (s .lines) (windows s) (s .window) store (s .precision)) → q ≡ reached p (length (windowsText (s .starts) (s .sizes) (s .window) (s .weights))) → new ≡ laid now p (windowsText (s .starts) (s .sizes) (s .window) (s .weights)) → (q ≡ reached 0 (length (sheetText kind store s))) × (new ≡ laid old 0 (sheetText kind store s))
 unfolding sheetText
-whole kind store s old e-p e-1 e-q e =
-    let l1 = laid-then (headText kind (s .lines) (windows s) (s .window) store (s .precision)) (laid-none 0 old) e-p e-1 in
+whole kind store s old short e-p e-1 e-q e =
+    let l1 = laid-then (headText kind (s .lines) (windows s) (s .window) store (s .precision)) (laid-none 0 old (lit< tt) short) e-p e-1 in
     let l2 = laid-then (windowsText (s .starts) (s .sizes) (s .window) (s .weights)) l1 e-q e in
-    (l2 .place ∙ zero-add _, l2 .is)
+    (l2 .place, l2 .is)

@@ -8,8 +8,8 @@ use native.Mathlib.Omega.{arith}
 use lib.IntN.{ℤ}
 use lib.ListN.{length}
 use borrow.Author.Tests.{lt-ltb, le-ltb}
-use Rattle.lists.specs.Text.{laid}
-use Rattle.lists.proofs.TextLaws.{laid-over}
+use Rattle.text.specs.Text.{laid}
+use Rattle.text.proofs.TextLaws.{laid-over}
 use Rattle.refusal.specs.declared.Refusal.the-variants.{BadSide, DoesNotFit, NoRoom}
 use Rattle.filters.specs.declared.FilterType.{FilterType}
 use Rattle.windows.specs.Fit.{badSides}

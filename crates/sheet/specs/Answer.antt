@@ -6,7 +6,7 @@ use Prim.Native.Nat.{ℕ}
 use lib.Dec.{eqb, ltb}
 use lib.IntN.{ℤ}
 use lib.ListN.{length}
-use Rattle.lists.specs.Text.{over}
+use Rattle.text.specs.Text.{over}
 use Rattle.refusal.specs.declared.Refusal.{Refusal}
 use Rattle.refusal.specs.declared.Refusal.the-variants.{BadSide, DoesNotFit, NoRoom}
 use Rattle.refusal.specs.Refusal.{numberOf as refusalNumber}

@@ -6,18 +6,10 @@ use Prim.Native.Nat.{ℕ, _+_, _*_}
 use lib.Dec.{eqb}
 use lib.IntN.{ℤ, pos}
 use lib.ListN.{length, getD}
-use Rattle.lists.specs.Text.{joined, decimal, signed}
+use Rattle.text.specs.Text.{joined, signed, fieldText, lineText}
 use Rattle.filters.specs.declared.FilterType.{FilterType}
 use Rattle.windows.specs.Set.{Set, windows}
 use Rattle.sheet.specs.Keys.{newline, keyKind, keyIn, keyOut, keyWindow, keyStore, keyPrecision, keyLine, equals, comma, colon, kindName}
-
--- a key and its number
-unfoldable pub fieldText : List ℕ → ℕ → List ℕ
-fieldText key n = key ++ decimal n
-
--- the same as a line
-unfoldable pub lineText : List ℕ → ℕ → List ℕ
-lineText key n = fieldText key n ++ newline
 
 -- the filter's line
 unfoldable pub kindText : FilterType → List ℕ

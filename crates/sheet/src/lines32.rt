@@ -1,18 +1,18 @@
 // The windows' lines of the 32-bit store.
 use crate::parts::put_item;
 use crate::parts::put_open;
-use crate::text::put_byte;
+use text::put_byte;
 ghost use mathlib.Core.Path.{_≡_};
 ghost use Prim.Native.Nat.{_+_, _^_, _<_, _≤_};
 ghost use lib.ListN.{length};
-ghost use Rattle.lists.specs.Text.{laid};
+ghost use Rattle.text.specs.Text.{laid, reached};
 ghost use Rattle.sheet.specs.Text.{weightsText, windowsText};
 ghost use Rattle.sheet.specs.Readable.{Readable};
 
 // `size` weights from the slot `from` on.
 fn put_weights32(weights: &[i32], from: usize, size: u32, at: usize, out: &mut [u8]) -> usize
-    requires { ⌜ (from + size ≤ length (now weights)) × (at + length (weightsText (now weights) from size) < 2 ^ 64) ⌝ }
-    ensures answer { λ r. ⌜ r ≡ at + length (weightsText (now (weights .entry)) from size) ⌝ }
+    requires { ⌜ from + size ≤ length (now weights) ⌝ }
+    ensures answer { λ r. ⌜ r ≡ reached at (length (weightsText (now (weights .entry)) from size)) ⌝ }
     ensures written { λ _. ⌜ now (out .exit) ≡ laid (now (out .entry)) at (weightsText (now (weights .entry)) from size) ⌝ }
 {
     let n = size as usize;
@@ -35,8 +35,7 @@ pub(crate) fn put_windows32(
     out: &mut [u8],
 ) -> usize
     requires { ⌜ Readable (now starts) (now sizes) window (length (now weights)) ⌝ }
-    requires { ⌜ at + length (windowsText (now starts) (now sizes) window (now weights)) < 2 ^ 64 ⌝ }
-    ensures answer { λ r. ⌜ r ≡ at + length (windowsText (now (starts .entry)) (now (sizes .entry)) window (now (weights .entry))) ⌝ }
+    ensures answer { λ r. ⌜ r ≡ reached at (length (windowsText (now (starts .entry)) (now (sizes .entry)) window (now (weights .entry)))) ⌝ }
     ensures written { λ _. ⌜ now (out .exit) ≡ laid (now (out .entry)) at (windowsText (now (starts .entry)) (now (sizes .entry)) window (now (weights .entry))) ⌝ }
 {
     let mut p = at;

@@ -1,22 +1,21 @@
 // The parts of a sheet that do not depend on the store's width.
-use crate::decimal::put_signed;
 use crate::keys;
-use crate::text::put;
-use crate::text::put_byte;
-use crate::text::put_field;
-use crate::text::put_line;
 use filters::FilterType;
+use text::put;
+use text::put_byte;
+use text::put_field;
+use text::put_line;
+use text::put_signed;
 ghost use mathlib.Core.Path.{_≡_};
 ghost use Prim.Native.Nat.{_+_, _^_, _<_};
 ghost use lib.ListN.{length};
-ghost use Rattle.lists.specs.Text.{laid};
+ghost use Rattle.text.specs.Text.{laid, reached};
 ghost use Rattle.sheet.specs.Keys.{kindName};
 ghost use Rattle.sheet.specs.Text.{kindText, sidesText, storeText, headText, itemText, openText};
 
 // The filter's name.
 fn put_kind(kind: FilterType, at: usize, out: &mut [u8]) -> usize
-    requires { ⌜ at + length (kindName kind) < 2 ^ 64 ⌝ }
-    ensures answer { λ r. ⌜ r ≡ at + length (kindName kind) ⌝ }
+    ensures answer { λ r. ⌜ r ≡ reached at (length (kindName kind)) ⌝ }
     ensures written { λ _. ⌜ now (out .exit) ≡ laid (now (out .entry)) at (kindName kind) ⌝ }
 {
     match kind {
@@ -29,8 +28,7 @@ fn put_kind(kind: FilterType, at: usize, out: &mut [u8]) -> usize
 
 // The filter's line.
 fn put_kind_line(kind: FilterType, at: usize, out: &mut [u8]) -> usize
-    requires { ⌜ at + length (kindText kind) < 2 ^ 64 ⌝ }
-    ensures answer { λ r. ⌜ r ≡ at + length (kindText kind) ⌝ }
+    ensures answer { λ r. ⌜ r ≡ reached at (length (kindText kind)) ⌝ }
     ensures written { λ _. ⌜ now (out .exit) ≡ laid (now (out .entry)) at (kindText kind) ⌝ }
 {
     let a = put(&keys::KIND, at, out);
@@ -40,8 +38,7 @@ fn put_kind_line(kind: FilterType, at: usize, out: &mut [u8]) -> usize
 
 // The lines of the two sides and of the window size.
 fn put_sides(lines: u64, outs: u64, window: u64, at: usize, out: &mut [u8]) -> usize
-    requires { ⌜ at + length (sidesText lines outs window) < 2 ^ 64 ⌝ }
-    ensures answer { λ r. ⌜ r ≡ at + length (sidesText lines outs window) ⌝ }
+    ensures answer { λ r. ⌜ r ≡ reached at (length (sidesText lines outs window)) ⌝ }
     ensures written { λ _. ⌜ now (out .exit) ≡ laid (now (out .entry)) at (sidesText lines outs window) ⌝ }
 {
     let a = put_line(&keys::IN, lines, at, out);
@@ -51,8 +48,7 @@ fn put_sides(lines: u64, outs: u64, window: u64, at: usize, out: &mut [u8]) -> u
 
 // The lines of the store and the precision.
 fn put_store(store: u64, precision: u64, at: usize, out: &mut [u8]) -> usize
-    requires { ⌜ at + length (storeText store precision) < 2 ^ 64 ⌝ }
-    ensures answer { λ r. ⌜ r ≡ at + length (storeText store precision) ⌝ }
+    ensures answer { λ r. ⌜ r ≡ reached at (length (storeText store precision)) ⌝ }
     ensures written { λ _. ⌜ now (out .exit) ≡ laid (now (out .entry)) at (storeText store precision) ⌝ }
 {
     let a = put_line(&keys::STORE, store, at, out);
@@ -70,8 +66,7 @@ pub(crate) fn put_head(
     at: usize,
     out: &mut [u8],
 ) -> usize
-    requires { ⌜ at + length (headText kind lines outs window store precision) < 2 ^ 64 ⌝ }
-    ensures answer { λ r. ⌜ r ≡ at + length (headText kind lines outs window store precision) ⌝ }
+    ensures answer { λ r. ⌜ r ≡ reached at (length (headText kind lines outs window store precision)) ⌝ }
     ensures written { λ _. ⌜ now (out .exit) ≡ laid (now (out .entry)) at (headText kind lines outs window store precision) ⌝ }
 {
     let a = put_kind_line(kind, at, out);
@@ -81,8 +76,7 @@ pub(crate) fn put_head(
 
 // The element j of a list.
 pub(crate) fn put_item(j: usize, v: i64, at: usize, out: &mut [u8]) -> usize
-    requires { ⌜ at + length (itemText j v) < 2 ^ 64 ⌝ }
-    ensures answer { λ r. ⌜ r ≡ at + length (itemText j v) ⌝ }
+    ensures answer { λ r. ⌜ r ≡ reached at (length (itemText j v)) ⌝ }
     ensures written { λ _. ⌜ now (out .exit) ≡ laid (now (out .entry)) at (itemText j v) ⌝ }
 {
     if j == 0 {
@@ -94,8 +88,7 @@ pub(crate) fn put_item(j: usize, v: i64, at: usize, out: &mut [u8]) -> usize
 
 // The beginning of a window's line.
 pub(crate) fn put_open(i: u64, start: u32, size: u32, at: usize, out: &mut [u8]) -> usize
-    requires { ⌜ at + length (openText i start size) < 2 ^ 64 ⌝ }
-    ensures answer { λ r. ⌜ r ≡ at + length (openText i start size) ⌝ }
+    ensures answer { λ r. ⌜ r ≡ reached at (length (openText i start size)) ⌝ }
     ensures written { λ _. ⌜ now (out .exit) ≡ laid (now (out .entry)) at (openText i start size) ⌝ }
 {
     let a = put_field(&keys::LINE, i, at, out);

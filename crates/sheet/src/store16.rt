@@ -9,7 +9,7 @@ use windows::sides_fit;
 ghost use mathlib.Core.Path.{_≡_};
 ghost use Prim.Native.Nat.{_^_, _<_};
 ghost use lib.ListN.{length};
-ghost use Rattle.lists.specs.Text.{laid};
+ghost use Rattle.text.specs.Text.{laid, reached};
 ghost use Rattle.windows.specs.Set.{setOf};
 ghost use Rattle.sheet.specs.Text.{sheetText};
 ghost use Rattle.sheet.specs.Answer.{answerOf, writtenOf};
@@ -27,8 +27,7 @@ fn put_sheet16(
     out: &mut [u8],
 ) -> usize
     requires { ⌜ Readable (now starts) (now sizes) window (length (now weights)) ⌝ }
-    requires { ⌜ length (sheetText kind 16 (setOf lines window (now weights) (now starts) (now sizes) precision)) < 2 ^ 64 ⌝ }
-    ensures answer { λ r. ⌜ r ≡ length (sheetText kind 16 (setOf lines window (now (weights .entry)) (now (starts .entry)) (now (sizes .entry)) precision)) ⌝ }
+    ensures answer { λ r. ⌜ r ≡ reached 0 (length (sheetText kind 16 (setOf lines window (now (weights .entry)) (now (starts .entry)) (now (sizes .entry)) precision))) ⌝ }
     ensures written { λ _. ⌜ now (out .exit) ≡ laid (now (out .entry)) 0 (sheetText kind 16 (setOf lines window (now (weights .entry)) (now (starts .entry)) (now (sizes .entry)) precision)) ⌝ }
 {
     let p = put_head(

@@ -37,7 +37,7 @@ whole-at-requires : tie.Need-whole-at-requires
 whole-at-requires c κs = search needs
 
 all-digits-requires : tie.Need-all-digits-requires
-all-digits-requires c κs = rw (c .whole-at .ensures, c .before .before .before .before .before-of .ensures) (places-in (c .before .before .before .before .before .before .args .text .now) .0)
+all-digits-requires c κs = search needs
 
 returns-3 : tie.Need-returns-3
 unfolding isDecimal
@@ -56,7 +56,7 @@ fraction-at-requires : tie.Need-fraction-at-requires
 fraction-at-requires c κs = search needs
 
 all-digits-requires-2 : tie.Need-all-digits-requires-2
-all-digits-requires-2 c κs = rw (c .fraction-at .ensures, c .before .before .before .before .before .before .places-of .ensures) (places-in (c .before .before .before .before .before .before .before .before .before .args .text .now) .1)
+all-digits-requires-2 c κs = search needs
 
 returns-4 : tie.Need-returns-4
 unfolding isDecimal

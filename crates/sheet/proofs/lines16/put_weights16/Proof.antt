@@ -1,6 +1,6 @@
 -- `lines16::put_weights16` meets its contract: before turn j the first j weights are laid; a weight widened to 64 bits is itself. Assumes nothing.
 use mathlib.Core.Path.{_≡_, _∙_}
-use Prim.Native.Nat.{_≤_, _-_, _+_, _^_}
+use Prim.Native.Nat.{_≤_, _-_, _+_}
 use native.Mathlib.Omega.{arith}
 use lib.IntN.{ℤ, pos}
 use lib.ListN.{getD}
@@ -8,8 +8,8 @@ use mir.Facts.{toZ-ofZ}
 use mir.Syntax.{w16, w64}
 use mir.Val.{SFits, toZ, ofZ}
 use borrow.Author.Needs.{needs}
-use Rattle.lists.specs.Text.{joined}
-use Rattle.lists.proofs.TextLaws.{Laid, laid-none, laid-piece, laid-long, joined-room}
+use Rattle.text.specs.Text.{joined}
+use Rattle.text.proofs.TextLaws.{Laid, laid-none, laid-piece, laid-long}
 use Rattle.sheet.specs.Text.{weightAt, weightsText}
 use Rattle.sheet.proofs.SheetLaws.{wide-back}
 use Rattle.sheet.proofs.lines16.put_weights16.Statement.{statement}
@@ -35,7 +35,7 @@ back : (c : tie.After-put-item-arg Inv-loop μ-loop) → toZ w64 (ofZ w64 (toZ w
 back c = wide-back w16 (weight c) (narrow c) (wide c)
 
 loop-holds : tie.Need-loop-holds Inv-loop μ-loop
-loop-holds c = (search needs, laid-none _ _)
+loop-holds c = (search needs, laid-none _ _ (search needs) (search needs))
 
 add-put-item : tie.Need-add-put-item Inv-loop μ-loop
 add-put-item c = search needs
@@ -50,13 +50,7 @@ cast-put-item : tie.Need-cast-put-item Inv-loop μ-loop
 cast-put-item c = rw (toZ-ofZ (narrow c)) (wide c)
 
 put-item-requires : tie.Need-put-item-requires Inv-loop μ-loop
-unfolding weightsText
-put-item-requires c κs =
-    let at = c .before .before .before in
-    let start = c .before .before .before .before .before in
-    let args = start .args in
-    rw (back (c .before))
-    (joined-room (weightAt (args .weights .now) (args .from)) (at .loop .j) (args .size) (args .at) (at .loop .p) (2 ^ 64) (at .loop .inv .1 .place) (c .before .before .loop-test .taken) (start .pre .1))
+put-item-requires c κs = search needs
 
 add-j : tie.Need-add-j Inv-loop μ-loop
 add-j c = search needs

@@ -1,16 +1,16 @@
 -- `lines32::put_windows32` meets its contract: before turn i the first i lines are laid and `from` is the first slot of window i; a turn lays the
 -- three parts of one line (`line-more`). Assumes nothing.
 use mathlib.Core.Path.{_≡_, sym}
-use Prim.Native.Nat.{ℕ, _≤_, _-_, _+_, _*_, _<_, _^_}
+use Prim.Native.Nat.{_≤_, _-_, _+_, _*_}
 use native.Mathlib.Nat.{zero-mul}
 use native.Mathlib.Omega.{arith}
-use lib.ListN.{length, getD}
+use lib.ListN.{length}
 use borrow.Author.Needs.{needs}
-use Rattle.lists.specs.Text.{joined}
+use Rattle.text.specs.Text.{joined}
 use Rattle.lists.proofs.TabLaws.{row-end, row-next}
-use Rattle.lists.proofs.TextLaws.{Laid, laid-none, laid-long, joined-room}
-use Rattle.sheet.specs.Text.{openText, weightsText, windowAt, windowsText}
-use Rattle.sheet.proofs.SheetLaws.{window-parts, line-more}
+use Rattle.text.proofs.TextLaws.{Laid, laid-none, laid-long}
+use Rattle.sheet.specs.Text.{windowAt, windowsText}
+use Rattle.sheet.proofs.SheetLaws.{line-more}
 use Rattle.sheet.proofs.lines32.put_windows32.Statement.{statement}
 use Rattle.sheet.proofs.lines32.put_windows32.Tie as tie
 
@@ -21,33 +21,14 @@ Inv-loop starts sizes window weights at out₀ p₀ from₀ i₀ out p from i =
 abbrev μ-loop : tie.MeasureT-loop
 μ-loop starts sizes window weights at out₀ p₀ from₀ i₀ out p from i = length starts - i
 
--- the length of the turn's line, but for its end
-abbrev line : tie.In-loop Inv-loop μ-loop → ℕ
-line c =
-    let a = c .before .before .before .before .before .args in
-    let i = c .before .loop .i in
-    let size = getD (a .sizes .now) i 0 in
-    length (openText i (getD (a .starts .now) i 0) size) + length (weightsText (a .weights .now) (i * a .window) size)
-
--- it ends below 2^64, as the whole does
-turn : (c : tie.In-loop Inv-loop μ-loop) → c .before .loop .p + line c + 1 < 2 ^ 64
-unfolding windowsText
-turn c =
-    let at = c .before in
-    let start = c .before .before .before .before .before in
-    let a = start .args in
-    window-parts (a .starts .now) (a .sizes .now) (a .window) (a .weights .now) (at .loop .i) (at .loop .p) (2 ^ 64)
-    (joined-room (windowAt (a .starts .now) (a .sizes .now) (a .window) (a .weights .now)) (at .loop .i) (length (a .starts .now)) (a .at) (at .loop .p) (2 ^ 64)
-    (at .loop .inv .2 .place) (c .loop-test .taken) (start .pre .1))
-
 -- the turn's slots end within those lent
 row : (c : tie.In-loop Inv-loop μ-loop) → c .before .loop .from + c .before .before .before .before .before .args .window ≤ length (c .before .before .before .before .before .args .weights .now)
 row c =
     let start = c .before .before .before .before .before in
-    rw (c .before .loop .inv .1, start .pre .0 .whole) (row-end (c .before .loop .i) (length (start .args .starts .now)) (start .args .window) (c .loop-test .taken))
+    rw (c .before .loop .inv .1, start .pre .whole) (row-end (c .before .loop .i) (length (start .args .starts .now)) (start .args .window) (c .loop-test .taken))
 
 loop-holds : tie.Need-loop-holds Inv-loop μ-loop
-loop-holds c = (search needs, sym (zero-mul _), laid-none _ _)
+loop-holds c = (search needs, sym (zero-mul _), laid-none _ _ (search needs) (search needs))
 
 mul-size : tie.Need-mul-size Inv-loop μ-loop
 mul-size c = search needs
@@ -62,21 +43,17 @@ shared-slice-read-put-open : tie.Need-shared-slice-read-put-open Inv-loop μ-loo
 shared-slice-read-put-open c = search needs
 
 put-open-requires : tie.Need-put-open-requires Inv-loop μ-loop
-put-open-requires c κs = omega (arith, turn (c .before .before .before))
+put-open-requires c κs = search needs
 
 put-weights32-requires : tie.Need-put-weights32-requires Inv-loop μ-loop
 put-weights32-requires c κs =
     let in-turn = c .before .before .before .before .before .before .before in
     let at = in-turn .before in
-    let start = in-turn .before .before .before .before .before in (
-      omega (arith, row in-turn, start .pre .0 .small (at .loop .i) (in-turn .loop-test .taken)),
-      rw (at .loop .inv .1) (omega (arith, turn in-turn, c .before .before .before .put-open .ensures .0)),
-    )
+    let start = in-turn .before .before .before .before .before in
+    omega (arith, row in-turn, start .pre .small (at .loop .i) (in-turn .loop-test .taken))
 
 put-byte-requires : tie.Need-put-byte-requires Inv-loop μ-loop
-put-byte-requires c κs =
-    let in-turn = c .before .before .before .before .before .before .before .before .before .before .before in
-    omega (arith, turn in-turn, rw (in-turn .before .loop .inv .1) at (c .before .before .before .put-weights32 .ensures .0), c .before .before .before .before .before .before .before .put-open .ensures .0)
+put-byte-requires c κs = search needs
 
 add-from : tie.Need-add-from Inv-loop μ-loop
 add-from c = omega (arith, row (c .before .before .before .before .before .before .before .before .before .before .before .before .before .before))

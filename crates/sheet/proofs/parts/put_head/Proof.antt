@@ -1,30 +1,23 @@
 -- `parts::put_head` meets its contract: the kind, the sides and the store are laid one after the other. Assumes nothing.
-use native.Mathlib.Omega.{arith}
-use lib.ListN.{length-append}
-use Rattle.lists.proofs.TextLaws.{laid-none, laid-then, laid-long}
+use borrow.Author.Needs.{needs}
+use Rattle.text.proofs.TextLaws.{laid-none, laid-then, laid-long}
 use Rattle.sheet.specs.Text.{kindText, sidesText, storeText, headText}
 use Rattle.sheet.proofs.parts.put_head.Statement.{statement}
 use Rattle.sheet.proofs.parts.put_head.Tie as tie
 
 put-kind-line-requires : tie.Need-put-kind-line-requires
-unfolding headText
-put-kind-line-requires c κs =
-    omega (arith, simp length-append at (c .before .before .pre))
+put-kind-line-requires c κs = search needs
 
 put-sides-requires : tie.Need-put-sides-requires
-unfolding headText
-put-sides-requires c κs =
-    omega (arith, c .before .before .before .put-kind-line .ensures .0, simp length-append at (c .before .before .before .before .before .before .pre))
+put-sides-requires c κs = search needs
 
 put-store-requires : tie.Need-put-store-requires
-unfolding headText
-put-store-requires c κs =
-    omega (arith, c .before .before .before .before .before .before .before .put-kind-line .ensures .0, c .before .before .before .put-sides .ensures .0, simp length-append at (c .before .before .before .before .before .before .before .before .before .before .pre))
+put-store-requires c κs = search needs
 
 same-length : tie.Need-same-length
 same-length c =
     let start = c .before .before .before .before .before .before .before .before .before .before .before .before .before in
-    let l1 = laid-then (kindText (start .args .kind)) (laid-none (start .args .at) (start .args .out .now)) (c .before .before .before .before .before .before .before .before .before .before .put-kind-line .ensures .0) (c .before .before .before .before .before .before .before .before .before .before .put-kind-line .ensures .1) in
+    let l1 = laid-then (kindText (start .args .kind)) (laid-none (start .args .at) (start .args .out .now) (search needs) (search needs)) (c .before .before .before .before .before .before .before .before .before .before .put-kind-line .ensures .0) (c .before .before .before .before .before .before .before .before .before .before .put-kind-line .ensures .1) in
     let l2 = laid-then (sidesText (start .args .lines) (start .args .outs) (start .args .window)) l1 (c .before .before .before .before .before .before .put-sides .ensures .0) (c .before .before .before .before .before .before .put-sides .ensures .1) in
     let l3 = laid-then (storeText (start .args .store) (start .args .precision)) l2 (c .before .before .put-store .ensures .0) (c .before .before .put-store .ensures .1) in
     laid-long l3
@@ -33,7 +26,7 @@ returns : tie.Need-returns
 unfolding headText
 returns c =
     let start = c .before .before .before .before .before .before .before .before .before .before .before .before .before in
-    let l1 = laid-then (kindText (start .args .kind)) (laid-none (start .args .at) (start .args .out .now)) (c .before .before .before .before .before .before .before .before .before .before .put-kind-line .ensures .0) (c .before .before .before .before .before .before .before .before .before .before .put-kind-line .ensures .1) in
+    let l1 = laid-then (kindText (start .args .kind)) (laid-none (start .args .at) (start .args .out .now) (search needs) (search needs)) (c .before .before .before .before .before .before .before .before .before .before .put-kind-line .ensures .0) (c .before .before .before .before .before .before .before .before .before .before .put-kind-line .ensures .1) in
     let l2 = laid-then (sidesText (start .args .lines) (start .args .outs) (start .args .window)) l1 (c .before .before .before .before .before .before .put-sides .ensures .0) (c .before .before .before .before .before .before .put-sides .ensures .1) in
     let l3 = laid-then (storeText (start .args .store) (start .args .precision)) l2 (c .before .before .put-store .ensures .0) (c .before .before .put-store .ensures .1) in
     (l3 .place, l3 .is)

@@ -1,13 +1,11 @@
 -- `parts::put_item` meets its contract: a comma before all but the first. Assumes nothing.
 use mathlib.Core.Path.{_≡_, ap, _∙_}
 use mathlib.Core.List.{_++_}
-use native.Mathlib.Omega.{arith}
-use lib.ListN.{length, length-append}
 use mir.Facts.{toZ-ofZ}
 use borrow.Author.Needs.{needs}
 use borrow.Author.Tests.{eq-eqb, ne-eqb}
-use Rattle.lists.specs.Text.{signed}
-use Rattle.lists.proofs.TextLaws.{laid-none, laid-then, laid-byte}
+use Rattle.text.specs.Text.{signed}
+use Rattle.text.proofs.TextLaws.{laid-none, laid-then, laid-byte}
 use Rattle.sheet.specs.Keys.{comma}
 use Rattle.sheet.specs.Text.{itemText}
 use Rattle.sheet.proofs.parts.put_item.Statement.{statement}
@@ -22,7 +20,7 @@ unfolding itemText
 more c = rw (ne-eqb (c .before .before .args .j) 0 (c .if1 .left))
 
 put-signed-requires : tie.Need-put-signed-requires
-put-signed-requires c κs = rw (toZ-ofZ (c .before .before .before .fits .v), ← only (c .before)) (c .before .before .before .pre)
+put-signed-requires c κs = search needs
 
 same-length : tie.Need-same-length
 same-length c = search needs
@@ -37,11 +35,10 @@ returns c =
     )
 
 put-byte-requires : tie.Need-put-byte-requires
-put-byte-requires c κs = omega (arith, simp length-append at (ap length (more (c .before))), c .before .before .before .pre)
+put-byte-requires c κs = search needs
 
 put-signed-requires-2 : tie.Need-put-signed-requires-2
-put-signed-requires-2 c κs =
-    rw (toZ-ofZ (c .before .before .before .before .before .before .before .fits .v)) (omega (arith, simp length-append at (ap length (more (c .before .before .before .before .before))), c .before .before .before .before .before .before .before .pre, c .before .before .before .put-byte .ensures .0))
+put-signed-requires-2 c κs = search needs
 
 same-length-2 : tie.Need-same-length-2
 same-length-2 c = search needs
@@ -51,7 +48,7 @@ returns-2 c =
     let start = c .before .before .before .before .before .before .before .before .before .before in
     let put = c .before .before .put-signed2 in
     let same = toZ-ofZ (start .fits .v) in
-    let l1 = laid-byte 44 (laid-none (start .args .at) (start .args .out .now)) (c .before .before .before .before .before .before .put-byte .ensures .0) (c .before .before .before .before .before .before .put-byte .ensures .1) in
+    let l1 = laid-byte 44 (laid-none (start .args .at) (start .args .out .now) (search needs) (search needs)) (c .before .before .before .before .before .before .put-byte .ensures .0) (c .before .before .before .before .before .before .put-byte .ensures .1) in
     let l2 = laid-then (signed (start .args .v)) l1 (put .ensures .0 ∙ rw same) (put .ensures .1 ∙ rw same) in
     rw (more (c .before .before .before .before .before .before .before .before)) (l2 .place, l2 .is)
 

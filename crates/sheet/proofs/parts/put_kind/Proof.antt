@@ -1,5 +1,4 @@
 -- `parts::put_kind` meets its contract: each kind's bytes are its name, by computing. Assumes nothing.
-use native.Mathlib.Omega.{arith}
 use borrow.Author.Needs.{needs}
 use Rattle.sheet.specs.Keys.{kindName}
 use Rattle.sheet.proofs.parts.put_kind.Statement.{statement}
@@ -12,8 +11,7 @@ slice-aggregate-put : tie.Need-slice-aggregate-put
 slice-aggregate-put c = search needs
 
 put-requires : tie.Need-put-requires
-unfolding kindName
-put-requires c κs = omega (arith, rw (c .before .before .enum-told .given .1) at (c .before .before .before .before .before .pre))
+put-requires c κs = search needs
 
 enum-told-2 : tie.Need-enum-told-2
 enum-told-2 c = search needs
@@ -22,8 +20,7 @@ slice-aggregate-put-2 : tie.Need-slice-aggregate-put-2
 slice-aggregate-put-2 c = search needs
 
 put-requires-2 : tie.Need-put-requires-2
-unfolding kindName
-put-requires-2 c κs = omega (arith, rw (c .before .before .enum-told2 .given .1) at (c .before .before .before .before .before .pre))
+put-requires-2 c κs = search needs
 
 enum-told-3 : tie.Need-enum-told-3
 enum-told-3 c = search needs
@@ -32,8 +29,7 @@ slice-aggregate-put-3 : tie.Need-slice-aggregate-put-3
 slice-aggregate-put-3 c = search needs
 
 put-requires-3 : tie.Need-put-requires-3
-unfolding kindName
-put-requires-3 c κs = omega (arith, rw (c .before .before .enum-told3 .given .1) at (c .before .before .before .before .before .pre))
+put-requires-3 c κs = search needs
 
 enum-told-4 : tie.Need-enum-told-4
 enum-told-4 c = search needs
@@ -42,8 +38,7 @@ slice-aggregate-put-4 : tie.Need-slice-aggregate-put-4
 slice-aggregate-put-4 c = search needs
 
 put-requires-4 : tie.Need-put-requires-4
-unfolding kindName
-put-requires-4 c κs = omega (arith, rw (c .before .before .enum-told4 .given .1) at (c .before .before .before .before .before .pre))
+put-requires-4 c κs = search needs
 
 same-length : tie.Need-same-length
 same-length c = search needs

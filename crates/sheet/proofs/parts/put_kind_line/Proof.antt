@@ -1,8 +1,6 @@
 -- `parts::put_kind_line` meets its contract: key, name and newline are laid one after the other. Assumes nothing.
-use native.Mathlib.Omega.{arith}
-use lib.ListN.{length-append}
 use borrow.Author.Needs.{needs}
-use Rattle.lists.proofs.TextLaws.{laid-none, laid-then, laid-byte, laid-long}
+use Rattle.text.proofs.TextLaws.{laid-none, laid-then, laid-byte, laid-long}
 use Rattle.sheet.specs.Keys.{keyKind, kindName}
 use Rattle.sheet.specs.Text.{kindText}
 use Rattle.sheet.proofs.parts.put_kind_line.Statement.{statement}
@@ -12,24 +10,18 @@ slice-aggregate-put : tie.Need-slice-aggregate-put
 slice-aggregate-put c = search needs
 
 put-requires : tie.Need-put-requires
-unfolding kindText
-put-requires c κs =
-    omega (arith, simp length-append at (c .before .before .before .pre))
+put-requires c κs = search needs
 
 put-kind-requires : tie.Need-put-kind-requires
-unfolding kindText
-put-kind-requires c κs =
-    omega (arith, c .before .before .before .put .ensures .0, simp length-append at (c .before .before .before .before .before .before .before .pre))
+put-kind-requires c κs = search needs
 
 put-byte-requires : tie.Need-put-byte-requires
-unfolding kindText
-put-byte-requires c κs =
-    omega (arith, c .before .before .before .before .before .before .before .put .ensures .0, c .before .before .before .put-kind .ensures .0, simp length-append at (c .before .before .before .before .before .before .before .before .before .before .before .pre))
+put-byte-requires c κs = search needs
 
 same-length : tie.Need-same-length
 same-length c =
     let start = c .before .before .before .before .before .before .before .before .before .before .before .before .before .before in
-    let l1 = laid-then keyKind (laid-none (start .args .at) (start .args .out .now)) (c .before .before .before .before .before .before .before .before .before .before .put .ensures .0) (c .before .before .before .before .before .before .before .before .before .before .put .ensures .1) in
+    let l1 = laid-then keyKind (laid-none (start .args .at) (start .args .out .now) (search needs) (search needs)) (c .before .before .before .before .before .before .before .before .before .before .put .ensures .0) (c .before .before .before .before .before .before .before .before .before .before .put .ensures .1) in
     let l2 = laid-then (kindName (start .args .kind)) l1 (c .before .before .before .before .before .before .put-kind .ensures .0) (c .before .before .before .before .before .before .put-kind .ensures .1) in
     let l3 = laid-byte 10 l2 (c .before .before .put-byte .ensures .0) (c .before .before .put-byte .ensures .1) in
     laid-long l3
@@ -38,7 +30,7 @@ returns : tie.Need-returns
 unfolding kindText
 returns c =
     let start = c .before .before .before .before .before .before .before .before .before .before .before .before .before .before in
-    let l1 = laid-then keyKind (laid-none (start .args .at) (start .args .out .now)) (c .before .before .before .before .before .before .before .before .before .before .put .ensures .0) (c .before .before .before .before .before .before .before .before .before .before .put .ensures .1) in
+    let l1 = laid-then keyKind (laid-none (start .args .at) (start .args .out .now) (search needs) (search needs)) (c .before .before .before .before .before .before .before .before .before .before .put .ensures .0) (c .before .before .before .before .before .before .before .before .before .before .put .ensures .1) in
     let l2 = laid-then (kindName (start .args .kind)) l1 (c .before .before .before .before .before .before .put-kind .ensures .0) (c .before .before .before .before .before .before .put-kind .ensures .1) in
     let l3 = laid-byte 10 l2 (c .before .before .put-byte .ensures .0) (c .before .before .put-byte .ensures .1) in
     (l3 .place, l3 .is)

@@ -1,9 +1,8 @@
 -- `parts::put_open` meets its contract: three fields and the colon are laid one after the other. Assumes nothing.
-use native.Mathlib.Omega.{arith}
-use lib.ListN.{length-append}
 use borrow.Author.Needs.{needs}
-use Rattle.lists.proofs.TextLaws.{laid-none, laid-then, laid-byte, laid-long}
-use Rattle.sheet.specs.Text.{fieldText, openText}
+use Rattle.text.specs.Text.{fieldText}
+use Rattle.text.proofs.TextLaws.{laid-none, laid-then, laid-byte, laid-long}
+use Rattle.sheet.specs.Text.{openText}
 use Rattle.sheet.specs.Keys.{keyLine, equals, comma}
 use Rattle.sheet.proofs.parts.put_open.Statement.{statement}
 use Rattle.sheet.proofs.parts.put_open.Tie as tie
@@ -12,35 +11,27 @@ slice-aggregate-put-field : tie.Need-slice-aggregate-put-field
 slice-aggregate-put-field c = search needs
 
 put-field-requires : tie.Need-put-field-requires
-unfolding openText
-put-field-requires c κs =
-    omega (arith, simp length-append at (c .before .before .before .pre))
+put-field-requires c κs = search needs
 
 slice-aggregate-put-field-2 : tie.Need-slice-aggregate-put-field-2
 slice-aggregate-put-field-2 c = search needs
 
 put-field-requires-2 : tie.Need-put-field-requires-2
-unfolding openText
-put-field-requires-2 c κs =
-    omega (arith, c .before .before .before .before .put-field .ensures .0, simp length-append at (c .before .before .before .before .before .before .before .before .pre))
+put-field-requires-2 c κs = search needs
 
 slice-aggregate-put-field-3 : tie.Need-slice-aggregate-put-field-3
 slice-aggregate-put-field-3 c = search needs
 
 put-field-requires-3 : tie.Need-put-field-requires-3
-unfolding openText
-put-field-requires-3 c κs =
-    omega (arith, c .before .before .before .before .before .before .before .before .before .put-field .ensures .0, c .before .before .before .before .put-field2 .ensures .0, simp length-append at (c .before .before .before .before .before .before .before .before .before .before .before .before .before .pre))
+put-field-requires-3 c κs = search needs
 
 put-byte-requires : tie.Need-put-byte-requires
-unfolding openText
-put-byte-requires c κs =
-    omega (arith, c .before .before .before .before .before .before .before .before .before .before .before .before .before .put-field .ensures .0, c .before .before .before .before .before .before .before .before .put-field2 .ensures .0, c .before .before .before .put-field3 .ensures .0, simp length-append at (c .before .before .before .before .before .before .before .before .before .before .before .before .before .before .before .before .before .pre))
+put-byte-requires c κs = search needs
 
 same-length : tie.Need-same-length
 same-length c =
     let start = c .before .before .before .before .before .before .before .before .before .before .before .before .before .before .before .before .before .before .before .before in
-    let l1 = laid-then (fieldText keyLine (start .args .i)) (laid-none (start .args .at) (start .args .out .now)) (c .before .before .before .before .before .before .before .before .before .before .before .before .before .before .before .before .put-field .ensures .0) (c .before .before .before .before .before .before .before .before .before .before .before .before .before .before .before .before .put-field .ensures .1) in
+    let l1 = laid-then (fieldText keyLine (start .args .i)) (laid-none (start .args .at) (start .args .out .now) (search needs) (search needs)) (c .before .before .before .before .before .before .before .before .before .before .before .before .before .before .before .before .put-field .ensures .0) (c .before .before .before .before .before .before .before .before .before .before .before .before .before .before .before .before .put-field .ensures .1) in
     let l2 = laid-then (fieldText equals (start .args .start)) l1 (c .before .before .before .before .before .before .before .before .before .before .before .put-field2 .ensures .0) (c .before .before .before .before .before .before .before .before .before .before .before .put-field2 .ensures .1) in
     let l3 = laid-then (fieldText comma (start .args .size)) l2 (c .before .before .before .before .before .before .put-field3 .ensures .0) (c .before .before .before .before .before .before .put-field3 .ensures .1) in
     let l4 = laid-byte 58 l3 (c .before .before .put-byte .ensures .0) (c .before .before .put-byte .ensures .1) in
@@ -50,7 +41,7 @@ returns : tie.Need-returns
 unfolding openText
 returns c =
     let start = c .before .before .before .before .before .before .before .before .before .before .before .before .before .before .before .before .before .before .before .before in
-    let l1 = laid-then (fieldText keyLine (start .args .i)) (laid-none (start .args .at) (start .args .out .now)) (c .before .before .before .before .before .before .before .before .before .before .before .before .before .before .before .before .put-field .ensures .0) (c .before .before .before .before .before .before .before .before .before .before .before .before .before .before .before .before .put-field .ensures .1) in
+    let l1 = laid-then (fieldText keyLine (start .args .i)) (laid-none (start .args .at) (start .args .out .now) (search needs) (search needs)) (c .before .before .before .before .before .before .before .before .before .before .before .before .before .before .before .before .put-field .ensures .0) (c .before .before .before .before .before .before .before .before .before .before .before .before .before .before .before .before .put-field .ensures .1) in
     let l2 = laid-then (fieldText equals (start .args .start)) l1 (c .before .before .before .before .before .before .before .before .before .before .before .put-field2 .ensures .0) (c .before .before .before .before .before .before .before .before .before .before .before .put-field2 .ensures .1) in
     let l3 = laid-then (fieldText comma (start .args .size)) l2 (c .before .before .before .before .before .before .put-field3 .ensures .0) (c .before .before .before .before .before .before .put-field3 .ensures .1) in
     let l4 = laid-byte 58 l3 (c .before .before .put-byte .ensures .0) (c .before .before .put-byte .ensures .1) in

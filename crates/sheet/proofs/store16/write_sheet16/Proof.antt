@@ -2,18 +2,18 @@
 -- Assumes nothing.
 use mathlib.Core.Path.{_≡_, sym, _∙_}
 use mathlib.Core.Bool.{false}
-use Prim.Native.Nat.{_<_, _^_}
 use native.Mathlib.Omega.{arith}
 use lib.IntN.{ℤ}
 use lib.ListN.{length}
 use borrow.Author.Needs.{needs}
 use borrow.Author.Tests.{not-false, not-true}
+use Rattle.text.specs.Text.{reached}
 use Rattle.windows.specs.Fit.{badSides}
 use Rattle.windows.specs.Set.{Set, setOf, windows}
 use Rattle.sheet.specs.Answer.{badSheet}
 use Rattle.sheet.specs.Text.{sheetText}
 use Rattle.sheet.proofs.JudgeLaws.{Passed, passed}
-use Rattle.sheet.proofs.SheetLaws.{sheet-small}
+use Rattle.sheet.proofs.SheetLaws.{sheet-counted}
 use Rattle.sheet.proofs.WriterLaws.{side-refused, misfit-refused, room-refused, all-written}
 use Rattle.sheet.proofs.store16.write_sheet16.Statement.{statement}
 use Rattle.sheet.proofs.store16.write_sheet16.Tie as tie
@@ -31,8 +31,9 @@ fits c = sym (c .before .misfits .ensures) ∙ c .if2 .left
 ready : (c : tie.Else2) → Passed (asked (c .before .before .before .before .before .before .before))
 ready c = passed (asked (c .before .before .before .before .before .before .before)) 21 (sides (c .before .before)) (fits c)
 
-short : (c : tie.Else2) → length (sheetText (c .before .before .before .before .before .before .before .args .kind) 16 (asked (c .before .before .before .before .before .before .before))) < 2 ^ 64
-short c = sheet-small (c .before .before .before .before .before .before .before .args .kind) 16 (asked (c .before .before .before .before .before .before .before)) (ready c)
+-- the run over one byte counts the whole text
+counted : (c : tie.Else2) → reached 0 (length (sheetText (c .before .before .before .before .before .before .before .args .kind) 16 (asked (c .before .before .before .before .before .before .before)))) ≡ length (sheetText (c .before .before .before .before .before .before .before .args .kind) 16 (asked (c .before .before .before .before .before .before .before)))
+counted c = sheet-counted (c .before .before .before .before .before .before .before .args .kind) 16 (asked (c .before .before .before .before .before .before .before)) (ready c)
 
 sides-fit-requires : tie.Need-sides-fit-requires
 sides-fit-requires c κs = search needs
@@ -55,16 +56,16 @@ slice-aggregate-put-sheet16 : tie.Need-slice-aggregate-put-sheet16
 slice-aggregate-put-sheet16 c = search needs
 
 put-sheet16-requires : tie.Need-put-sheet16-requires
-put-sheet16-requires c κs = (ready (c .before) .readable, short (c .before))
+put-sheet16-requires c κs = ready (c .before) .readable
 
 returns-3 : tie.Need-returns-3
 returns-3 c =
     let at = c .before .before .before .before in
     let s = at .before .before .before .before .before .before .before in
-    room-refused (s .args .kind) 16 (asked s) (s .args .out .now) (sides (at .before .before)) (fits at) (omega (arith, c .if3 .taken, c .before .before .put-sheet16 .ensures .0))
+    room-refused (s .args .kind) 16 (asked s) (s .args .out .now) (sides (at .before .before)) (fits at) (omega (arith, c .if3 .taken, c .before .before .put-sheet16 .ensures .0, counted at))
 
 put-sheet16-requires-2 : tie.Need-put-sheet16-requires-2
-put-sheet16-requires-2 c κs = let at = c .before .before .before .before .before in (ready at .readable, short at)
+put-sheet16-requires-2 c κs = ready (c .before .before .before .before .before) .readable
 
 same-length : tie.Need-same-length
 same-length c = search needs
@@ -73,7 +74,7 @@ returns-4 : tie.Need-returns-4
 returns-4 c =
     let at = c .before .before .before .before .before .before .before .before in
     let s = at .before .before .before .before .before .before .before in
-    let length-is = c .before .before .before .before .before .before .put-sheet16 .ensures .0 in
+    let length-is = c .before .before .before .before .before .before .put-sheet16 .ensures .0 ∙ counted at in
     all-written (s .args .kind) 16 (asked s) (s .args .out .now) (sides (at .before .before)) (fits at) (omega (arith, c .before .before .before .before .if3 .left, length-is)) length-is
     (c .before .before .put-sheet162 .ensures .1)
 

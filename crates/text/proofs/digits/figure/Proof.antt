@@ -1,0 +1,23 @@
+-- The test is the definition's. Assumes nothing.
+use borrow.Author.Tests.{lt-ltb, le-ltb}
+use Rattle.text.specs.Digits.{figure}
+use borrow.Author.Needs.{needs}
+use Rattle.text.proofs.digits.figure.Statement.{statement}
+use Rattle.text.proofs.digits.figure.Tie as tie
+
+digit-requires : tie.Need-digit-requires
+digit-requires c κs = search needs
+
+cast-d : tie.Need-cast-d
+cast-d c = search needs
+
+returns : tie.Need-returns
+unfolding figure
+returns c = rw (← c .before .digit .ensures, lt-ltb _ _ (c .if1 .taken))
+
+returns-2 : tie.Need-returns-2
+unfolding figure
+returns-2 c = rw (← c .before .digit .ensures, le-ltb _ _ (c .if1 .left))
+
+pub figure-spec : {M : Type 1} → statement M
+figure-spec = tie.close (tie.spec digit-requires cast-d returns returns-2)
