@@ -3,7 +3,7 @@ ghost use mathlib.Core.Path.{_≡_};
 ghost use Prim.Native.Nat.{_<_, _≤_};
 ghost use Rattle.alpha.specs.Alpha.{multiplied, quotient};
 
-// The whole number nearest to a x b / 255, for any two bytes.
+// The whole number nearest to a x b / 255, for any two bytes. Document 01 names it and `div_and_clip`; the loops here take bytes held in words instead.
 pub fn mul_div_255(a: u8, b: u8) -> u8
     ensures answer { λ r. ⌜ r ≡ multiplied a b ⌝ }
 {

@@ -20,7 +20,7 @@ pub fn clip8(v: i32) -> u8
     if 639 < v {
         return 255;
     }
-    entry(&CLIP8_LOOKUPS, (v + 640) as usize)
+    lookup((v + 640) as usize)
 }
 
 // v clipped to 0 .. 65535, for any i64. A maximum and a minimum, which compile to no branch.
@@ -30,7 +30,15 @@ pub fn clip16(v: i64) -> u16
     at_most(at_least(v))
 }
 
-// The entry at k, which stands for k - 640.
+// The entry of CLIP8_LOOKUPS at k, which stands for k - 640. The table is lent on, since a constant indexed by name is copied at each use.
+fn lookup(k: usize) -> u8
+    requires { ⌜ k < 1280 ⌝ }
+    ensures answer { λ r. ⌜ r ≡ entryOf k ⌝ }
+{
+    entry(&CLIP8_LOOKUPS, k)
+}
+
+// The entry at k of a table that follows the rule.
 fn entry(table: &[u8], k: usize) -> u8
     requires { ⌜ now table ≡ tab 0 1280 entryOf ⌝ ∗ ⌜ k < 1280 ⌝ }
     ensures { λ r. ⌜ r ≡ entryOf k ⌝ }

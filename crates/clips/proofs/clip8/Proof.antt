@@ -1,5 +1,4 @@
--- `clip8`: between the tests v + 640 is a place of the table, and the entry there is v clipped. That the table is the list of the rule's 1,280 values is
--- computed once, in `entry-requires`. Assumes nothing.
+-- `clip8`: between the tests v + 640 is a place of the table, and the entry there is v clipped. Assumes nothing.
 use mathlib.Core.Path.{_≡_, refl, _∙_, ap, sym}
 use mathlib.Core.Bool.{false}
 use Prim.Native.Nat.{ℕ, suc, _+_, _-_, _<_, _≤_}
@@ -49,26 +48,22 @@ returns c = sym (clipped-low 255 (c .before .args .v) (negsuc 639) refl (rw (toZ
 returns-2 : tie.Need-returns-2
 returns-2 c = sym (clipped-high 255 639 (c .before .before .args .v) (omega arith) (rw (toZ-ofZ (c .before .before .fits .v)) at (c .if2 .taken)))
 
-slice-aggregate-entry : tie.Need-slice-aggregate-entry
-slice-aggregate-entry c = search needs
+add-lookup : tie.Need-add-lookup
+add-lookup c = rw (toZ-ofZ (c .before .before .fits .v), here c .is) (record { sfits = omega (arith, here c .small) })
 
-add-entry : tie.Need-add-entry
-add-entry c = rw (toZ-ofZ (c .before .before .before .fits .v), here (c .before) .is) (record { sfits = omega (arith, here (c .before) .small) })
+cast-lookup : tie.Need-cast-lookup
+cast-lookup c =
+    rw (toZ-ofZ (c .before .before .fits .v), at-place (c .before .before .args .v) (here c)) (tt, record { fits = omega (arith, here c .small) })
 
-cast-entry : tie.Need-cast-entry
-cast-entry c =
-    rw (toZ-ofZ (c .before .before .before .fits .v), at-place (c .before .before .before .args .v) (here (c .before))) (tt, record { fits = omega (arith, here (c .before) .small) })
-
-entry-requires : tie.Need-entry-requires
-unfolding clipped
-entry-requires c κs = (refl, rw (toZ-ofZ (c .before .before .before .fits .v), at-place (c .before .before .before .args .v) (here (c .before))) (here (c .before) .small))
+lookup-requires : tie.Need-lookup-requires
+lookup-requires c κs = rw (toZ-ofZ (c .before .before .fits .v), at-place (c .before .before .args .v) (here c)) (here c .small)
 
 returns-3 : tie.Need-returns-3
 returns-3 c =
-    let v = c .before .before .before .before .args .v in
-    let back : toZ w32 (ofZ w32 v) ≡ v = toZ-ofZ (c .before .before .before .before .fits .v) in
-    c .entry .ensures ∙ ap (λ (z : ℤ). entryOf (natAbs (toZ w32 (ofZ w32 (z +ℤ pos 640))))) back
-    ∙ ap (λ (z : ℤ). entryOf (natAbs z)) (at-place v (here (c .before .before))) ∙ rule v (here (c .before .before))
+    let v = c .before .before .before .args .v in
+    let back : toZ w32 (ofZ w32 v) ≡ v = toZ-ofZ (c .before .before .before .fits .v) in
+    c .lookup .ensures ∙ ap (λ (z : ℤ). entryOf (natAbs (toZ w32 (ofZ w32 (z +ℤ pos 640))))) back
+    ∙ ap (λ (z : ℤ). entryOf (natAbs z)) (at-place v (here (c .before))) ∙ rule v (here (c .before))
 
 pub clip8-spec : {M : Type 1} → statement M
-clip8-spec = tie.close (tie.spec returns returns-2 slice-aggregate-entry add-entry cast-entry entry-requires returns-3)
+clip8-spec = tie.close (tie.spec returns returns-2 add-lookup cast-lookup lookup-requires returns-3)
