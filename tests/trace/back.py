@@ -24,6 +24,8 @@ class Back:
         self.definitions()
         self.promises()
         self.the_edits()
+        house = tree.read(links.root, "docs", "ARCHITECTURE.md")
+        self.problems += ["docs/ARCHITECTURE.md does not name the crate " + c for c in self.tree.crates if "`%s`" % c not in house]
 
     def functions(self):
         c = self.links.contracts
