@@ -1,4 +1,4 @@
-"""The samples and windows of two programs that nobody here wrote that are known to differ: (kind, side, output, display line). docs/DIFFERENCES.md says why of each."""
+"""The samples of ImageMagick and the windows of Pillow that are known to differ from ours: (kind, side, output, display line). docs/DIFFERENCES.md says why of each."""
 
 IMAGEMAGICK = {
     ("bilinear", 18, 33, 13), ("bilinear", 49, 37, 28), ("catmullrom", 16, 18, 13), ("box", 40, 6, 1),

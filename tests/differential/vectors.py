@@ -1,5 +1,5 @@
 #!/usr/bin/env python3
-"""Answers of programs that nobody here wrote, against the oracle or the port.
+"""Answers of ImageMagick and Pillow, against the oracle or the port.
 
 usage: vectors.py PROGRAM IMAGEMAGICK PILLOW
 
