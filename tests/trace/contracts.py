@@ -45,11 +45,20 @@ def cell(labels):
     return shown + (" and %d more" % (len(labels) - SHOWN) if len(labels) > SHOWN else "")
 
 
+def misplaced(t, crate, text):
+    """Definitions that a cell names with their file and that are not there: `a`, `b`, specs/File.antt, or crate/specs/File.antt, or specs/File.antt of crate."""
+    for names, before, file, after in re.findall(r"((?:`[^`]+`,? ?)+)\(?(?:(\w+)/)?specs/(\w+)\.antt(?: of (\w+))?", text):
+        where = after or before or crate
+        for name in re.findall(r"`([^`\s]+)[^`]*`", names):
+            if (where, file, name) not in t.defs:
+                yield "docs/CONTRACTS.md, %s: crates/%s/specs/%s.antt does not define %s" % (crate, where, file, name)
+
+
 class Contracts:
     def __init__(self, root, t):
         self.place = os.path.join(root, "docs", "CONTRACTS.md")
         self.there = tree.read(self.place)
-        self.edits, self.rows, self.cited, self.out, crate = of_functions(t), {}, set(), [], None
+        self.edits, self.rows, self.cited, self.out, self.gone, crate = of_functions(t), {}, set(), [], [], None
         self.cited.update(label for labels in self.edits.values() for label in labels)
         head, _, self.exceptions = self.there.partition("## Exceptions")
         for line in head.splitlines():
@@ -59,6 +68,7 @@ class Contracts:
             if len(cells) > 3 and "`" in cells[0]:
                 names = [crate + "::" + n for n in re.findall(r"`([\w:]+)`", cells[0])]
                 self.rows.update((n, self.edits.get(n, [])) for n in names)
+                self.gone += misplaced(t, crate, cells[2])
                 cells[3:] = [cell(list(dict.fromkeys(l for n in names for l in self.edits.get(n, []))))]
                 line = "|" + " | ".join(cells) + " |"
             else:

@@ -12,7 +12,7 @@ class Links:
         self.root, self.rules, self.tree = root, rules, tree.Tree(root)
         self.contracts = contracts.Contracts(root, self.tree)
         self.ways = ways.Ways(root, rules)
-        self.problems = []
+        self.problems = list(self.contracts.gone)
         self.cells = {r.id: self.look(r) for r in rules.all() if not r.kind}
 
     def bad(self, rule, text):
