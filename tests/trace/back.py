@@ -97,6 +97,10 @@ class Back:
         named = {w for line in text.splitlines() if line.startswith("|") for w in re.findall(r"`([a-z][a-z0-9]*(?:-[a-z0-9]+)+)`", line)}
         for w in named - {n for _, n in self.by_law}:
             self.problems.append("docs/PROMISES.md names %s, which no rule has" % w)
+        for part in re.findall(r"(?s)\*Rests on\.\*(.*?)\n\n", text):
+            for names, crate, file in re.findall(r"([^;]*?) of `crates/(\w+)/specs/(?:(\w+)\.antt)?`", part):
+                there = {d[2] for d in self.tree.defs if d[0] == crate and file in ("", d[1])}
+                self.problems += ["docs/PROMISES.md: crates/%s/specs/%s does not define %s" % (crate, file and file + ".antt", w) for w in re.findall(r"`(\w+)`", names) if w not in there]
 
     def the_edits(self):
         for label, e in self.tree.edits.items():
