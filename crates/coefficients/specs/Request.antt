@@ -5,6 +5,7 @@ use mathlib.Core.List.{List}
 use Prim.Native.Nat.{ℕ}
 use lib.Dec.{ltb}
 use lib.Ieee.{Float, lt, le}
+use Rattle.lists.specs.Ranges.{outside}
 use Rattle.numbers.specs.Window.{window}
 use Rattle.refusal.specs.declared.Refusal.{Refusal}
 use Rattle.refusal.specs.declared.Refusal.the-variants.{BadSide, NoScale, TooFewSlots}
@@ -25,7 +26,6 @@ use Rattle.coefficients.specs.declared.Planned.the-variants.{Ready, Refu
 use Rattle.coefficients.specs.declared.Built.{Built}
 use Rattle.coefficients.specs.declared.Built.the-variants.{Done, Blank, Refused as BuildRefused}
 use Rattle.coefficients.specs.Lines.{slots, firstBlank, orZero, weightsIn, startsIn, sizesIn}
-use Rattle.windows.specs.Fit.{outside}
 
 -- the near edge is left (or top), the far edge left + width (or top + height), rounded once
 unfoldable pub edgeOf : Axis → ℕ → ℕ → CropBox → Edge

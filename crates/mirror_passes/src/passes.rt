@@ -1,7 +1,7 @@
 // The two vertical passes.
 ghost use mathlib.Core.Path.{_≡_};
 ghost use lib.ListN.{length};
-ghost use Rattle.windows.specs.Set.{setOf};
+ghost use Rattle.windows.specs.Set.{layoutOf, setOf, storedOf};
 ghost use Rattle.vertical.specs.Passed.{numberOf};
 ghost use Rattle.vertical.specs.F32.{passed32, written32};
 ghost use Rattle.vertical.specs.U16.{passed16, written16};
@@ -22,8 +22,8 @@ pub extern "C" fn mirror_vertical_u16(
     precision: u32,
     out: &mut [u16],
 ) -> u32
-    ensures answer { λ r. ⌜ r ≡ numberOf (passed16 (setOf lines window (now (weights .entry)) (now (starts .entry)) (now (sizes .entry)) precision) (now (src .entry)) row first count (length (now (out .entry)))) ⌝ }
-    ensures written { λ _. ⌜ now (out .exit) ≡ written16 (setOf lines window (now (weights .entry)) (now (starts .entry)) (now (sizes .entry)) precision) (now (src .entry)) row first count (now (out .entry)) ⌝ }
+    ensures answer { λ r. ⌜ r ≡ numberOf (passed16 (storedOf (setOf (layoutOf lines window (now (starts .entry)) (now (sizes .entry))) (now (weights .entry))) precision) (now (src .entry)) row first count (length (now (out .entry)))) ⌝ }
+    ensures written { λ _. ⌜ now (out .exit) ≡ written16 (storedOf (setOf (layoutOf lines window (now (starts .entry)) (now (sizes .entry))) (now (weights .entry))) precision) (now (src .entry)) row first count (now (out .entry)) ⌝ }
 {
     pass_number(vertical_u16::vert_convolution_u16(
         src,
@@ -54,8 +54,8 @@ pub extern "C" fn mirror_vertical_f32(
     window: u32,
     out: &mut [f32],
 ) -> u32
-    ensures answer { λ r. ⌜ r ≡ numberOf (passed32 (setOf lines window (now (weights .entry)) (now (starts .entry)) (now (sizes .entry)) 0) (now (src .entry)) row first count (length (now (out .entry)))) ⌝ }
-    ensures written { λ _. ⌜ now (out .exit) ≡ written32 (setOf lines window (now (weights .entry)) (now (starts .entry)) (now (sizes .entry)) 0) (now (src .entry)) row first count (now (out .entry)) ⌝ }
+    ensures answer { λ r. ⌜ r ≡ numberOf (passed32 (setOf (layoutOf lines window (now (starts .entry)) (now (sizes .entry))) (now (weights .entry))) (now (src .entry)) row first count (length (now (out .entry)))) ⌝ }
+    ensures written { λ _. ⌜ now (out .exit) ≡ written32 (setOf (layoutOf lines window (now (starts .entry)) (now (sizes .entry))) (now (weights .entry))) (now (src .entry)) row first count (now (out .entry)) ⌝ }
 {
     pass_number(vertical_f32::vert_convolution_f32(
         src,

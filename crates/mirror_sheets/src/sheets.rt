@@ -2,7 +2,8 @@
 ghost use mathlib.Core.Path.{_≡_};
 ghost use mathlib.Core.Bool.{cond};
 ghost use lib.ListN.{length};
-ghost use Rattle.windows.specs.Set.{setOf};
+ghost use Rattle.windows.specs.Set.{layoutOf, setOf, storedOf};
+ghost use Rattle.windows.specs.Store.{store16, store32};
 ghost use Rattle.sheet.specs.Answer.{answerOf, writtenOf, numberOf, lengthOf};
 ghost use Rattle.codes.specs.Codes.{badCode, noFilter, filterOf};
 use codes::filter_named;
@@ -40,9 +41,9 @@ pub extern "C" fn mirror_sheet16(
     text: &mut [u8],
     written: &mut u64,
 ) -> u32
-    ensures answer { λ r. ⌜ r ≡ cond (noFilter filter) badCode (numberOf (answerOf (filterOf filter) 16 (setOf lines window (now (weights .entry)) (now (starts .entry)) (now (sizes .entry)) precision) (length (now (text .entry))))) ⌝ }
-    ensures written { λ _. ⌜ now (text .exit) ≡ cond (noFilter filter) (now (text .entry)) (writtenOf (filterOf filter) 16 (setOf lines window (now (weights .entry)) (now (starts .entry)) (now (sizes .entry)) precision) (now (text .entry))) ⌝ }
-    ensures written2 { λ _. ⌜ now (written .exit) ≡ cond (noFilter filter) 0 (lengthOf (answerOf (filterOf filter) 16 (setOf lines window (now (weights .entry)) (now (starts .entry)) (now (sizes .entry)) precision) (length (now (text .entry))))) ⌝ }
+    ensures answer { λ r. ⌜ r ≡ cond (noFilter filter) badCode (numberOf (answerOf (filterOf filter) store16 (storedOf (setOf (layoutOf lines window (now (starts .entry)) (now (sizes .entry))) (now (weights .entry))) precision) (length (now (text .entry))))) ⌝ }
+    ensures written { λ _. ⌜ now (text .exit) ≡ cond (noFilter filter) (now (text .entry)) (writtenOf (filterOf filter) store16 (storedOf (setOf (layoutOf lines window (now (starts .entry)) (now (sizes .entry))) (now (weights .entry))) precision) (now (text .entry))) ⌝ }
+    ensures written2 { λ _. ⌜ now (written .exit) ≡ cond (noFilter filter) 0 (lengthOf (answerOf (filterOf filter) store16 (storedOf (setOf (layoutOf lines window (now (starts .entry)) (now (sizes .entry))) (now (weights .entry))) precision) (length (now (text .entry))))) ⌝ }
 {
     if 3 < filter {
         *written = 0;
@@ -67,9 +68,9 @@ pub extern "C" fn mirror_sheet32(
     text: &mut [u8],
     written: &mut u64,
 ) -> u32
-    ensures answer { λ r. ⌜ r ≡ cond (noFilter filter) badCode (numberOf (answerOf (filterOf filter) 32 (setOf lines window (now (weights .entry)) (now (starts .entry)) (now (sizes .entry)) precision) (length (now (text .entry))))) ⌝ }
-    ensures written { λ _. ⌜ now (text .exit) ≡ cond (noFilter filter) (now (text .entry)) (writtenOf (filterOf filter) 32 (setOf lines window (now (weights .entry)) (now (starts .entry)) (now (sizes .entry)) precision) (now (text .entry))) ⌝ }
-    ensures written2 { λ _. ⌜ now (written .exit) ≡ cond (noFilter filter) 0 (lengthOf (answerOf (filterOf filter) 32 (setOf lines window (now (weights .entry)) (now (starts .entry)) (now (sizes .entry)) precision) (length (now (text .entry))))) ⌝ }
+    ensures answer { λ r. ⌜ r ≡ cond (noFilter filter) badCode (numberOf (answerOf (filterOf filter) store32 (storedOf (setOf (layoutOf lines window (now (starts .entry)) (now (sizes .entry))) (now (weights .entry))) precision) (length (now (text .entry))))) ⌝ }
+    ensures written { λ _. ⌜ now (text .exit) ≡ cond (noFilter filter) (now (text .entry)) (writtenOf (filterOf filter) store32 (storedOf (setOf (layoutOf lines window (now (starts .entry)) (now (sizes .entry))) (now (weights .entry))) precision) (now (text .entry))) ⌝ }
+    ensures written2 { λ _. ⌜ now (written .exit) ≡ cond (noFilter filter) 0 (lengthOf (answerOf (filterOf filter) store32 (storedOf (setOf (layoutOf lines window (now (starts .entry)) (now (sizes .entry))) (now (weights .entry))) precision) (length (now (text .entry))))) ⌝ }
 {
     if 3 < filter {
         *written = 0;

@@ -1,7 +1,8 @@
 // The two normalisers: the weights of a set as integers in `out`, their precision in `precision`.
 ghost use mathlib.Core.Path.{_≡_};
 ghost use lib.ListN.{length};
-ghost use Rattle.windows.specs.Set.{setOf};
+ghost use Rattle.windows.specs.Set.{layoutOf, setOf};
+ghost use Rattle.windows.specs.Store.{store16, store32};
 ghost use Rattle.normalizer.specs.Answer.{normalizedOf, writtenOf, numberOf, precisionIn};
 use crate::answers::normalized_number;
 use crate::answers::normalized_precision;
@@ -17,9 +18,9 @@ pub extern "C" fn mirror_normalize16(
     out: &mut [i16],
     precision: &mut u32,
 ) -> u32
-    ensures answer { λ r. ⌜ r ≡ numberOf (normalizedOf 22 15 (setOf lines window (now (weights .entry)) (now (starts .entry)) (now (sizes .entry)) 0) (length (now (out .entry)))) ⌝ }
-    ensures written { λ _. ⌜ now (out .exit) ≡ writtenOf 22 15 (setOf lines window (now (weights .entry)) (now (starts .entry)) (now (sizes .entry)) 0) (now (out .entry)) ⌝ }
-    ensures written2 { λ _. ⌜ now (precision .exit) ≡ precisionIn (normalizedOf 22 15 (setOf lines window (now (weights .entry)) (now (starts .entry)) (now (sizes .entry)) 0) (length (now (out .entry)))) ⌝ }
+    ensures answer { λ r. ⌜ r ≡ numberOf (normalizedOf store16 (setOf (layoutOf lines window (now (starts .entry)) (now (sizes .entry))) (now (weights .entry))) (length (now (out .entry)))) ⌝ }
+    ensures written { λ _. ⌜ now (out .exit) ≡ writtenOf store16 (setOf (layoutOf lines window (now (starts .entry)) (now (sizes .entry))) (now (weights .entry))) (now (out .entry)) ⌝ }
+    ensures written2 { λ _. ⌜ now (precision .exit) ≡ precisionIn (normalizedOf store16 (setOf (layoutOf lines window (now (starts .entry)) (now (sizes .entry))) (now (weights .entry))) (length (now (out .entry)))) ⌝ }
 {
     let answer = normalizer::normalize16(lines, window, weights, starts, sizes, out);
     *precision = normalized_precision(answer);
@@ -37,9 +38,9 @@ pub extern "C" fn mirror_normalize32(
     out: &mut [i32],
     precision: &mut u32,
 ) -> u32
-    ensures answer { λ r. ⌜ r ≡ numberOf (normalizedOf 46 31 (setOf lines window (now (weights .entry)) (now (starts .entry)) (now (sizes .entry)) 0) (length (now (out .entry)))) ⌝ }
-    ensures written { λ _. ⌜ now (out .exit) ≡ writtenOf 46 31 (setOf lines window (now (weights .entry)) (now (starts .entry)) (now (sizes .entry)) 0) (now (out .entry)) ⌝ }
-    ensures written2 { λ _. ⌜ now (precision .exit) ≡ precisionIn (normalizedOf 46 31 (setOf lines window (now (weights .entry)) (now (starts .entry)) (now (sizes .entry)) 0) (length (now (out .entry)))) ⌝ }
+    ensures answer { λ r. ⌜ r ≡ numberOf (normalizedOf store32 (setOf (layoutOf lines window (now (starts .entry)) (now (sizes .entry))) (now (weights .entry))) (length (now (out .entry)))) ⌝ }
+    ensures written { λ _. ⌜ now (out .exit) ≡ writtenOf store32 (setOf (layoutOf lines window (now (starts .entry)) (now (sizes .entry))) (now (weights .entry))) (now (out .entry)) ⌝ }
+    ensures written2 { λ _. ⌜ now (precision .exit) ≡ precisionIn (normalizedOf store32 (setOf (layoutOf lines window (now (starts .entry)) (now (sizes .entry))) (now (weights .entry))) (length (now (out .entry)))) ⌝ }
 {
     let answer = normalizer::normalize32(lines, window, weights, starts, sizes, out);
     *precision = normalized_precision(answer);

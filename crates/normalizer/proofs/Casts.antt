@@ -14,6 +14,7 @@ use lib.Ieee.Fits.{down-pos}
 use Rattle.lists.proofs.BoolLaws.{never, or-first}
 use Rattle.floats.proofs.Value.{lt-values, neg-value}
 use Rattle.floats.proofs.Integers.{whole-val}
+use Rattle.windows.specs.declared.Store.{Store}
 use Rattle.normalizer.specs.Precision.{power}
 use Rattle.normalizer.specs.Answer.{holds}
 
@@ -98,10 +99,14 @@ module _ (h : ℕ) (small : h ≤ 53) where
         same = ap pos (caps (m * up e / down e) (2 ^ 63 - 1) (2 ^ h - 1) (omega (arith, wider)) (omega arith));
       }
 
-  pub held : (x : Float) → holds h x ≡ true → Cut h x
+  within : (x : Float) → not (lt x (neg (power h))) && lt x (power h) ≡ true → Cut h x
   unfolding lt
-  held nan t = never (sym t)
-  held (inf true) t = never (rw (below-all (neg (power h)) true (2 ^ h) 1 minus-value) at (sym t))
-  held (inf false) t = absurd (subst T (above-all (power h) false (2 ^ h) 1 power-value) (both (not (lt (inf false) (neg (power h)))) (lt (inf false) (power h)) t .1))
-  held (fin true m e) t = negative m e (not-under m e (both (not (lt (fin true m e) (neg (power h)))) (lt (fin true m e) (power h)) t .0))
-  held (fin false m e) t = positive m e (under m e (both (not (lt (fin false m e) (neg (power h)))) (lt (fin false m e) (power h)) t .1))
+  within nan t = never (sym t)
+  within (inf true) t = never (rw (below-all (neg (power h)) true (2 ^ h) 1 minus-value) at (sym t))
+  within (inf false) t = absurd (subst T (above-all (power h) false (2 ^ h) 1 power-value) (both (not (lt (inf false) (neg (power h)))) (lt (inf false) (power h)) t .1))
+  within (fin true m e) t = negative m e (not-under m e (both (not (lt (fin true m e) (neg (power h)))) (lt (fin true m e) (power h)) t .0))
+  within (fin false m e) t = positive m e (under m e (both (not (lt (fin false m e) (neg (power h)))) (lt (fin false m e) (power h)) t .1))
+
+-- a number that a store holds
+pub held : (store : Store) → store .limit ≤ 53 → (x : Float) → holds store x ≡ true → Cut (store .limit) x
+held store = within (store .limit)

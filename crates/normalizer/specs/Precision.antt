@@ -1,14 +1,16 @@
--- The precision of a set and its integer weights, over the store's (bits, limit): (22, 15) for the 16-bit store, (46, 31) for the 32-bit one.
+-- The precision of a set and its integer weights, over the store.
 -- Cited by the contracts of both normalisers and by the promises. Definitions only. Assumes nothing.
 use mathlib.Core.Bool.{Bool, cond}
 use mathlib.Core.List.{List}
-use Prim.Native.Nat.{ℕ, _+_, _-_, _^_}
+use Prim.Native.Nat.{ℕ, _+_, _^_}
 use lib.IntN.{ℤ}
 use lib.ListN.{length, getD}
 use lib.Ieee.{Float, nan, binary64, le, lt, toSigned}
 use Rattle.lists.specs.Tab.{first, turns}
 use Rattle.floats.specs.Doubles.{zero64, double, _times_}
 use Rattle.numbers.specs.Whole.{roundAway}
+use Rattle.windows.specs.declared.Store.{Store}
+use Rattle.windows.specs.Store.{largestPrecision}
 
 -- 2^p
 abbrev pub power : ℕ → Float
@@ -30,10 +32,10 @@ scaled p w = roundAway binary64 (w times power p)
 abbrev pub reaches : ℕ → Float → ℕ → Bool
 reaches limit w p = le (power limit) (scaled (p + 1) w)
 
--- the first p from 0 to bits - 1 of which that holds for the largest weight, or bits - 1 if there is none; so bits - 1 itself is never tried
-unfoldable pub precision : ℕ → ℕ → List Float → ℕ
-precision bits limit weights = first (reaches limit (largest weights)) 0 (bits - 1)
+-- the first p from 0 to the largest precision of which that holds for the largest weight, or the largest precision if there is none; so that itself is never tried
+unfoldable pub precision : Store → List Float → ℕ
+precision store weights = first (reaches (store .limit) (largest weights)) 0 (largestPrecision store)
 
--- the integer weight, in a type of `limit` bits and a sign
-unfoldable pub integer : ℕ → ℕ → Float → ℤ
-integer limit p w = toSigned limit (scaled p w)
+-- the integer weight, in the store's type
+unfoldable pub integer : Store → ℕ → Float → ℤ
+integer store p w = toSigned (store .limit) (scaled p w)

@@ -6,10 +6,12 @@ mod store;
 
 ghost use mathlib.Core.Path.{_≡_};
 ghost use lib.ListN.{length};
-ghost use Rattle.windows.specs.Set.{setOf};
+ghost use Rattle.windows.specs.Set.{layoutOf, setOf};
+ghost use Rattle.windows.specs.Store.{store16, store32};
 ghost use Rattle.normalizer.specs.Precision.{precision};
 ghost use Rattle.normalizer.specs.Answer.{normalizedOf, writtenOf};
 use refusal::Refusal;
+use windows::Store;
 
 pub enum Normalized {
     // the precision
@@ -27,12 +29,17 @@ impl Normalizer16 {
 
     pub const LIMIT: u32 = 15;
 
+    const STORE: Store = Store {
+        bits: Self::BITS,
+        limit: Self::LIMIT,
+    };
+
     // The precision that the weights get, for any doubles.
     pub fn new(weights: &[f64]) -> Self
-        ensures answer { λ r. ⌜ r .precision ≡ precision 22 15 (now (weights .entry)) ⌝ }
+        ensures answer { λ r. ⌜ r .precision ≡ precision store16 (now (weights .entry)) ⌝ }
     {
         Normalizer16 {
-            precision: precision::precision(weights, Self::BITS, Self::LIMIT),
+            precision: precision::precision(weights, Self::STORE),
         }
     }
 }
@@ -47,12 +54,17 @@ impl Normalizer32 {
 
     pub const LIMIT: u32 = 31;
 
+    const STORE: Store = Store {
+        bits: Self::BITS,
+        limit: Self::LIMIT,
+    };
+
     // The precision that the weights get, for any doubles.
     pub fn new(weights: &[f64]) -> Self
-        ensures answer { λ r. ⌜ r .precision ≡ precision 46 31 (now (weights .entry)) ⌝ }
+        ensures answer { λ r. ⌜ r .precision ≡ precision store32 (now (weights .entry)) ⌝ }
     {
         Normalizer32 {
-            precision: precision::precision(weights, Self::BITS, Self::LIMIT),
+            precision: precision::precision(weights, Self::STORE),
         }
     }
 }
@@ -60,20 +72,19 @@ impl Normalizer32 {
 // The weights of a set in the 16-bit store, and their precision, or the number that refuses them; for any numbers and lists.
 pub fn normalize16(
     lines: u32,
-    window: u32,
+    window_size: u32,
     weights: &[f64],
     starts: &[u32],
     sizes: &[u32],
     out: &mut [i16],
 ) -> Normalized
-    ensures answer { λ r. ⌜ r ≡ normalizedOf 22 15 (setOf lines window (now (weights .entry)) (now (starts .entry)) (now (sizes .entry)) 0) (length (now (out .entry))) ⌝ }
-    ensures written { λ _. ⌜ now (out .exit) ≡ writtenOf 22 15 (setOf lines window (now (weights .entry)) (now (starts .entry)) (now (sizes .entry)) 0) (now (out .entry)) ⌝ }
+    ensures answer { λ r. ⌜ r ≡ normalizedOf store16 (setOf (layoutOf lines «window_size» (now (starts .entry)) (now (sizes .entry))) (now (weights .entry))) (length (now (out .entry))) ⌝ }
+    ensures written { λ _. ⌜ now (out .exit) ≡ writtenOf store16 (setOf (layoutOf lines «window_size» (now (starts .entry)) (now (sizes .entry))) (now (weights .entry))) (now (out .entry)) ⌝ }
 {
     let answer = judge::judge(
-        Normalizer16::BITS,
-        Normalizer16::LIMIT,
+        Normalizer16::STORE,
         lines,
-        window,
+        window_size,
         weights,
         starts,
         sizes,
@@ -82,27 +93,26 @@ pub fn normalize16(
     let Normalized::Done(p) = answer else {
         return answer;
     };
-    store::store16(p, window, weights, sizes, out);
+    store::write16(p, window_size, weights, sizes, out);
     answer
 }
 
 // The same in the 32-bit store.
 pub fn normalize32(
     lines: u32,
-    window: u32,
+    window_size: u32,
     weights: &[f64],
     starts: &[u32],
     sizes: &[u32],
     out: &mut [i32],
 ) -> Normalized
-    ensures answer { λ r. ⌜ r ≡ normalizedOf 46 31 (setOf lines window (now (weights .entry)) (now (starts .entry)) (now (sizes .entry)) 0) (length (now (out .entry))) ⌝ }
-    ensures written { λ _. ⌜ now (out .exit) ≡ writtenOf 46 31 (setOf lines window (now (weights .entry)) (now (starts .entry)) (now (sizes .entry)) 0) (now (out .entry)) ⌝ }
+    ensures answer { λ r. ⌜ r ≡ normalizedOf store32 (setOf (layoutOf lines «window_size» (now (starts .entry)) (now (sizes .entry))) (now (weights .entry))) (length (now (out .entry))) ⌝ }
+    ensures written { λ _. ⌜ now (out .exit) ≡ writtenOf store32 (setOf (layoutOf lines «window_size» (now (starts .entry)) (now (sizes .entry))) (now (weights .entry))) (now (out .entry)) ⌝ }
 {
     let answer = judge::judge(
-        Normalizer32::BITS,
-        Normalizer32::LIMIT,
+        Normalizer32::STORE,
         lines,
-        window,
+        window_size,
         weights,
         starts,
         sizes,
@@ -111,6 +121,6 @@ pub fn normalize32(
     let Normalized::Done(p) = answer else {
         return answer;
     };
-    store::store32(p, window, weights, sizes, out);
+    store::write32(p, window_size, weights, sizes, out);
     answer
 }

@@ -1,17 +1,18 @@
 // The search for a set's precision, and a weight at a precision.
 ghost use mathlib.Core.Path.{_≡_};
 ghost use Prim.Native.Nat.{_<_, _≤_};
+use windows::Store;
 ghost use Rattle.normalizer.specs.Precision.{power as powerF, larger as largerF, largest as largestF, scaled as scaledF, precision as precisionF, reaches};
 
-// The precision of the weights in a store of `bits` and `limit`.
-pub(crate) fn precision(weights: &[f64], bits: u32, limit: u32) -> u32
-    requires { ⌜ 1 ≤ bits ⌝ ∗ ⌜ bits ≤ 46 ⌝ ∗ ⌜ limit < 64 ⌝ }
-    ensures { λ r. ⌜ r ≡ precisionF bits limit (now (weights .entry)) ⌝ }
+// The precision of the weights in a store.
+pub(crate) fn precision(weights: &[f64], store: Store) -> u32
+    requires { ⌜ 1 ≤ store .bits ⌝ ∗ ⌜ store .bits ≤ 46 ⌝ ∗ ⌜ store .limit < 64 ⌝ }
+    ensures { λ r. ⌜ r ≡ precisionF store (now (weights .entry)) ⌝ }
 {
     let w = largest(weights);
     let mut p: u32 = 0;
-    while p + 1 < bits {
-        if reach(limit, w, p) {
+    while p + 1 < store.bits {
+        if reach(store.limit, w, p) {
             return p;
         }
         p += 1;

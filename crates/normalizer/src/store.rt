@@ -5,28 +5,28 @@ ghost use Prim.Native.Nat.{_<_, _≤_, _*_};
 ghost use lib.IntN.{pos};
 ghost use lib.ListN.{length};
 ghost use Rattle.lists.specs.Tab.{any, front};
-ghost use Rattle.windows.specs.Set.{setOf};
+ghost use Rattle.windows.specs.Store.{store16, store32};
 ghost use Rattle.normalizer.specs.Precision.{scaled as scaledF, integer};
 ghost use Rattle.normalizer.specs.Answer.{holds, leaves, slotAt};
 use crate::judge::in_use;
 use crate::precision::scaled;
 
 // Every slot of the set: the integer weight where it is in use, else 0.
-pub(crate) fn store16(p: u32, window: u32, weights: &[f64], sizes: &[u32], out: &mut [i16])
-    requires { ⌜ p < 46 ⌝ ∗ ⌜ 0 < window ⌝ ∗ ⌜ length (now weights) ≡ length (now sizes) * window ⌝ ∗ ⌜ length (now weights) ≤ length (now out) ⌝ ∗ ⌜ any (length (now weights)) (leaves 15 p window (now weights) (now sizes)) ≡ false ⌝ }
-    ensures { λ _. ⌜ now (out .exit) ≡ front (length (now (weights .entry))) (slotAt 15 p (setOf 0 window (now (weights .entry)) (now (sizes .entry)) (now (sizes .entry)) 0)) (now (out .entry)) ⌝ }
+pub(crate) fn write16(p: u32, window_size: u32, weights: &[f64], sizes: &[u32], out: &mut [i16])
+    requires { ⌜ p < 46 ⌝ ∗ ⌜ 0 < «window_size» ⌝ ∗ ⌜ length (now weights) ≡ length (now sizes) * «window_size» ⌝ ∗ ⌜ length (now weights) ≤ length (now out) ⌝ ∗ ⌜ any (length (now weights)) (leaves store16 p «window_size» (now weights) (now sizes)) ≡ false ⌝ }
+    ensures { λ _. ⌜ now (out .exit) ≡ front (length (now (weights .entry))) (slotAt store16 p «window_size» (now (weights .entry)) (now (sizes .entry))) (now (out .entry)) ⌝ }
 {
     let mut k: usize = 0;
     while k < weights.len() {
-        out[k] = slot16(p, weights[k], in_use(k, window, sizes));
+        out[k] = slot16(p, weights[k], in_use(k, window_size, sizes));
         k += 1;
     }
 }
 
 // The integer weight of one slot.
 fn slot16(p: u32, w: f64, used: bool) -> i16
-    requires { ⌜ p < 46 ⌝ ∗ ⌜ used && not (holds 15 (scaledF p w)) ≡ false ⌝ }
-    ensures { λ r. ⌜ r ≡ cond used (integer 15 p w) (pos 0) ⌝ }
+    requires { ⌜ p < 46 ⌝ ∗ ⌜ used && not (holds store16 (scaledF p w)) ≡ false ⌝ }
+    ensures { λ r. ⌜ r ≡ cond used (integer store16 p w) (pos 0) ⌝ }
 {
     if used {
         return std::num::truncating_f64_to_i64(scaled(w, p)) as i16;
@@ -35,21 +35,21 @@ fn slot16(p: u32, w: f64, used: bool) -> i16
 }
 
 // The same in the 32-bit store.
-pub(crate) fn store32(p: u32, window: u32, weights: &[f64], sizes: &[u32], out: &mut [i32])
-    requires { ⌜ p < 46 ⌝ ∗ ⌜ 0 < window ⌝ ∗ ⌜ length (now weights) ≡ length (now sizes) * window ⌝ ∗ ⌜ length (now weights) ≤ length (now out) ⌝ ∗ ⌜ any (length (now weights)) (leaves 31 p window (now weights) (now sizes)) ≡ false ⌝ }
-    ensures { λ _. ⌜ now (out .exit) ≡ front (length (now (weights .entry))) (slotAt 31 p (setOf 0 window (now (weights .entry)) (now (sizes .entry)) (now (sizes .entry)) 0)) (now (out .entry)) ⌝ }
+pub(crate) fn write32(p: u32, window_size: u32, weights: &[f64], sizes: &[u32], out: &mut [i32])
+    requires { ⌜ p < 46 ⌝ ∗ ⌜ 0 < «window_size» ⌝ ∗ ⌜ length (now weights) ≡ length (now sizes) * «window_size» ⌝ ∗ ⌜ length (now weights) ≤ length (now out) ⌝ ∗ ⌜ any (length (now weights)) (leaves store32 p «window_size» (now weights) (now sizes)) ≡ false ⌝ }
+    ensures { λ _. ⌜ now (out .exit) ≡ front (length (now (weights .entry))) (slotAt store32 p «window_size» (now (weights .entry)) (now (sizes .entry))) (now (out .entry)) ⌝ }
 {
     let mut k: usize = 0;
     while k < weights.len() {
-        out[k] = slot32(p, weights[k], in_use(k, window, sizes));
+        out[k] = slot32(p, weights[k], in_use(k, window_size, sizes));
         k += 1;
     }
 }
 
 // The integer weight of one slot.
 fn slot32(p: u32, w: f64, used: bool) -> i32
-    requires { ⌜ p < 46 ⌝ ∗ ⌜ used && not (holds 31 (scaledF p w)) ≡ false ⌝ }
-    ensures { λ r. ⌜ r ≡ cond used (integer 31 p w) (pos 0) ⌝ }
+    requires { ⌜ p < 46 ⌝ ∗ ⌜ used && not (holds store32 (scaledF p w)) ≡ false ⌝ }
+    ensures { λ r. ⌜ r ≡ cond used (integer store32 p w) (pos 0) ⌝ }
 {
     if used {
         return std::num::truncating_f64_to_i64(scaled(w, p)) as i32;

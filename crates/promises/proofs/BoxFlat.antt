@@ -30,7 +30,7 @@ module _ (q : Request) (lines : ℕ) (ws : List Float) (ss zs : List ℕ) (out :
       near q lines ws ss zs (windowOf (built q lines ws ss zs out)) out (precisionIn (normal q lines ws ss zs out)) (ok .0) made
       (normalized-done (normal q lines ws ss zs out) (ok .2))
 
-  long : windows (stored q lines ws ss zs out) ≡ q .output
+  long : windows (stored q lines ws ss zs out .set .layout) ≡ q .output
   long = set.long-starts q ws ss zs (windowOf (built q lines ws ss zs out)) (ok .0) made
 
 pub box-premise : BoxPremise

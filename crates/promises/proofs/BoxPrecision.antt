@@ -23,6 +23,7 @@ use Rattle.floats.proofs.Signs.{lhs, rhs, lt-nat, le-nat}
 use lib.Ieee.Exact.{HasValue}
 use lib.Ieee.Scale.{finite}
 use Rattle.floats.proofs.Integers.{int, int-value, within-mul, int-within}
+use Rattle.windows.specs.Store.{store32}
 use Rattle.normalizer.specs.Precision.{larger, largest, scaled, reaches, precision}
 use Rattle.promises.proofs.BoxFilter.{not-reached}
 
@@ -87,7 +88,7 @@ largest-within l n all = go (length l) (le-refl (length l))
     go zero h = first-within l n all
     go (suc m) h = larger-within _ (getD l m nan) n (go m (omega arith)) (all m h)
 
-pub precise : (l : List Float) → Within (largest l) 1 → (30 ≤ precision 46 31 l) × (precision 46 31 l ≤ 45)
+pub precise : (l : List Float) → Within (largest l) 1 → (30 ≤ precision store32 l) × (precision store32 l ≤ 45)
 unfolding precision
 precise l W = (
   le-trans (le-of-eq (sym (zero-add 30))) (first-over (reaches 31 (largest l)) 0 45 30 (lit≤ tt) (λ j h. ap (reaches 31 (largest l)) (zero-add j) ∙ not-reaches (largest l) j W h)),

@@ -29,13 +29,13 @@ use Rattle.floats.proofs.Within.{within-value}
 use Rattle.floats.proofs.Integers.{int, int-value, within-mul, within-div-int, passes-float, int-within}
 use Rattle.numbers.specs.Whole.{roundAway}
 use Rattle.numbers.proofs.Sizes.{half-le}
-use Rattle.refusal.specs.declared.Refusal.{Refusal}
-use Rattle.windows.specs.Fit.{badSides, badSet}
-use Rattle.windows.specs.Set.{Set, windows}
+use Rattle.windows.specs.Set.{Set, Stored, windows, inUse}
+use Rattle.windows.specs.Store.{store32}
 use Rattle.normalizer.specs.declared.Normalized.{Normalized}
-use Rattle.normalizer.specs.declared.Normalized.the-variants.{Done as Normal, Refused}
-use Rattle.normalizer.specs.Precision.{power, scaled, precision, integer}
-use Rattle.normalizer.specs.Answer.{inUse, holds, leaves, notFinite, badPrecision, badWeights, tooFewSlots, normalizedOf, slotAt, writtenBy, writtenOf}
+use Rattle.normalizer.specs.declared.Normalized.the-variants.{Done as Normal}
+use Rattle.normalizer.specs.Precision.{power, scaled, integer}
+use Rattle.normalizer.specs.Answer.{holds, leaves, normalizedOf, slotAt, writtenBy, writtenOf}
+use Rattle.normalizer.proofs.Judged.{Ready, ready}
 use Rattle.filters.specs.declared.FilterType.the-variants.{Box}
 use Rattle.coefficients.specs.declared.Request.{Request}
 use Rattle.coefficients.specs.declared.Built.the-variants.{Done as Built}
@@ -46,37 +46,6 @@ use Rattle.promises.specs.BoxKeepsFlat.{builtSet, storedSet}
 use Rattle.promises.proofs.Box.{weight, box, scaled as product}
 use Rattle.promises.proofs.BoxSet as set
 use Rattle.promises.proofs.BoxPrecision.{rounded-is, largest-within, precise}
-
--- ---- what a normaliser that was not refused found
-abbrev kept : Normalized → ℕ
-kept (Normal p) = 0
-kept (Refused r) = 1
-
-unlike : {r : Refusal} {p : ℕ} → Refused r ≡ Normal p → ⊥
-unlike h = let z = ap kept h in omega arith
-
-same-precision : (a b : ℕ) → Normal a ≡ Normal b → a ≡ b
-same-precision a b h = cc
-
-pub record Accepted (bits limit : ℕ) (s : Set Float) (P : ℕ) : Type 0 where
-  pub found : precision bits limit (s .weights) ≡ P
-  pub inside : (x : ℕ) → x < length (s .weights) → leaves limit P (s .window) (s .weights) (s .sizes) x ≡ false
-
-pub accepted : (bits limit : ℕ) (s : Set Float) (room P : ℕ) → normalizedOf bits limit s room ≡ Normal P → Accepted bits limit s P
-unfolding normalizedOf
-accepted bits limit s room P h =
-    let p = precision bits limit (s .weights) in
-    let s1 = ladder (badSides (s .lines) (windows s)) unlike h in
-    let s2 = ladder (tooFewSlots bits limit s room) unlike (s1 .1) in
-    let s3 = ladder (badSet (s .lines) (s .window) (length (s .weights)) (s .starts) (s .sizes)) unlike (s2 .1) in
-    let s4 = ladder (badWeights bits limit s room) unlike (s3 .1) in
-    let e : p ≡ P = same-precision p P (s4 .1) in
-    let bad = or-right (any (length (s .weights)) (notFinite (s .weights))) (badPrecision limit p (s .window) (s .weights) (s .sizes)) (s4 .0) in
-    let none = or-right (ltb p 4) (any (length (s .weights)) (leaves limit p (s .window) (s .weights) (s .sizes))) bad in
-    record {
-      found = e;
-      inside = λ x l. subst (λ (n : ℕ). leaves limit n (s .window) (s .weights) (s .sizes) x ≡ false) e (any-none (leaves limit p (s .window) (s .weights) (s .sizes)) (length (s .weights)) none x l);
-    }
 
 -- a weight in use that does not leave its type is below 2^limit
 under : (a b c : Bool) → a ≡ true → a && not (b && c) ≡ false → c ≡ true
@@ -131,29 +100,29 @@ module _ (n P : ℕ) (some : 0 < n) (many : n ≤ 8192) (high : P ≤ 45) where
       ∙ ap (λ (z : Float). lt z (int (2 ^ 31))) (sym scaled-is) ∙ h) in
       omega arith
 
-  integer-is : each < 2 ^ 31 → integer 31 P (weight n) ≡ pos each
+  integer-is : each < 2 ^ 31 → integer store32 P (weight n) ≡ pos each
   unfolding integer scaled ofInt
   integer-is l = away-cast (product n P) 31 (1 * 2 ^ P) (lit≤ tt) within l
 
 -- ---- a Box set that the builder and the 32-bit normaliser accept
 module _ (q : Request) (lines : ℕ) (ws : List Float) (ss zs : List ℕ) (w : ℕ) (out : List ℤ) (P : ℕ)
     (box-asked : q .filter ≡ Box) (built : builtOf q (length ws) (length ss) (length zs) ≡ Built w)
-    (normal : normalizedOf 46 31 (builtSet q lines ws ss zs w) (length out) ≡ Normal P) where
+    (normal : normalizedOf store32 (builtSet q lines ws ss zs w) (length out) ≡ Normal P) where
   abbrev s : Set Float
   s = builtSet q lines ws ss zs w
 
   -- what the normaliser leaves of it
-  abbrev held : Set ℤ
+  abbrev held : Stored
   held = storedSet s P out
 
-  got : Accepted 46 31 s P
-  got = accepted 46 31 s (length out) P normal
+  got : Ready store32 s (length out) P
+  got = ready store32 s (length out) P normal
 
   -- the precision
   exact : (30 ≤ P) × (P ≤ 45)
   exact =
       let top = largest-within (s .weights) 1 (set.none-above q ws ss zs w box-asked built) in
-      subst (λ (p : ℕ). (30 ≤ p) × (p ≤ 45)) (got .found) (precise (s .weights) top)
+      subst (λ (p : ℕ). (30 ≤ p) × (p ≤ 45)) (sym (got .found)) (precise (s .weights) top)
 
   module _ (i : ℕ) (h : i < q .output) where
     abbrev n : ℕ
@@ -165,14 +134,14 @@ module _ (q : Request) (lines : ℕ) (ws : List Float) (ss zs : List ℕ) (w : �
     many : n ≤ 8192
     many = set.some-lines q ws ss zs w box-asked built i h .1
 
-    size-is : getD (s .sizes) i 0 ≡ n
+    size-is : getD (s .layout .sizes) i 0 ≡ n
     size-is = set.size-at q ws ss zs w box-asked built i h
 
     -- a line of the window: its slot, and that it is in use
     in-row : (k : ℕ) → k < n → k < w
     in-row k l = lt-of-lt-of-le l (set.in-window q ws ss zs w box-asked built i h)
 
-    used : (k : ℕ) → k < n → inUse w (s .sizes) (i * w + k) ≡ true
+    used : (k : ℕ) → k < n → inUse w (s .layout .sizes) (i * w + k) ≡ true
     used k l =
         let r = in-row k l in
         rw (digits-mod i r, digits-div i r, size-is) (lt-ltb k n l)
@@ -180,7 +149,7 @@ module _ (q : Request) (lines : ℕ) (ws : List Float) (ss zs : List ℕ) (w : �
     share : (k : ℕ) → k < n → getD (s .weights) (i * w + k) nan ≡ weight n
     share k l = set.share-at q ws ss zs w box-asked built i h k l
 
-    long : windows s ≡ q .output
+    long : windows (s .layout) ≡ q .output
     long = set.long-starts q ws ss zs w box-asked built
 
     place : (k : ℕ) → k < n → i * w + k < q .output * w
@@ -191,27 +160,27 @@ module _ (q : Request) (lines : ℕ) (ws : List Float) (ss zs : List ℕ) (w : �
     fits =
         let x = i * w + 0 in
         let there : x < length (s .weights) = lt-of-lt-of-le (place 0 some) (le-of-eq (sym (set.long-weights q ws ss zs w box-asked built))) in
-        let kept : inUse w (s .sizes) x && not (holds 31 (scaled P (weight n))) ≡ false =
-        subst (λ (v : Float). inUse w (s .sizes) x && not (holds 31 (scaled P v)) ≡ false) (share 0 some) (got .inside x there) in
+        let kept : inUse w (s .layout .sizes) x && not (holds store32 (scaled P (weight n))) ≡ false =
+        subst (λ (v : Float). inUse w (s .layout .sizes) x && not (holds store32 (scaled P v)) ≡ false) (share 0 some) (any-none (leaves store32 P w (s .weights) (s .layout .sizes)) (length (s .weights)) (got .inside) x there) in
         below-limit n P some many (exact .1)
-        (under (inUse w (s .sizes) x) (not (lt (scaled P (weight n)) (neg (power 31)))) (lt (scaled P (weight n)) (power 31)) (used 0 some) kept)
+        (under (inUse w (s .layout .sizes) x) (not (lt (scaled P (weight n)) (neg (power 31)))) (lt (scaled P (weight n)) (power 31)) (used 0 some) kept)
 
     -- every slot in use of the stored set holds that integer
-    stored-at : (k : ℕ) → k < n → getD (held .weights) (i * w + k) (pos 0) ≡ pos (each n P some many (exact .1))
+    stored-at : (k : ℕ) → k < n → getD (held .set .weights) (i * w + k) (pos 0) ≡ pos (each n P some many (exact .1))
     unfolding writtenOf writtenBy
     stored-at k l =
         let x = i * w + k in
-        let there : x < windows s * w = lt-of-lt-of-le (place k l) (le-of-eq (ap (λ (m : ℕ). m * w) (sym long))) in
-        ap (λ (a : Normalized). getD (take (windows s * w) (writtenBy 31 s a out)) x (pos 0)) normal
-        ∙ getD-take (windows s * w) (front (windows s * w) (slotAt 31 P s) out) x (pos 0) there
-        ∙ front-below (windows s * w) (slotAt 31 P s) out x (pos 0) there
-        ∙ ap (λ (t : Bool). cond t (integer 31 P (getD (s .weights) x nan)) (pos 0)) (used k l)
-        ∙ ap (integer 31 P) (share k l)
+        let there : x < windows (s .layout) * w = lt-of-lt-of-le (place k l) (le-of-eq (ap (λ (m : ℕ). m * w) (sym long))) in
+        ap (λ (a : Normalized). getD (take (windows (s .layout) * w) (writtenBy store32 s a out)) x (pos 0)) normal
+        ∙ getD-take (windows (s .layout) * w) (front (windows (s .layout) * w) (slotAt store32 P w (s .weights) (s .layout .sizes)) out) x (pos 0) there
+        ∙ front-below (windows (s .layout) * w) (slotAt store32 P w (s .weights) (s .layout .sizes)) out x (pos 0) there
+        ∙ ap (λ (t : Bool). cond t (integer store32 P (getD (s .weights) x nan)) (pos 0)) (used k l)
+        ∙ ap (integer store32 P) (share k l)
         ∙ integer-is n P some many (exact .1) fits
 
     pub near : NearOne held i
     near =
         let K = each n P some many (exact .1) in
-        let all : sum (λ k. getD (held .weights) (i * w + k) (pos 0)) n ≡ pos (K * n) =
-        sum-ext (λ k. getD (held .weights) (i * w + k) (pos 0)) (λ k. pos K) n stored-at ∙ sum-equal K n in
+        let all : sum (λ k. getD (held .set .weights) (i * w + k) (pos 0)) n ≡ pos (K * n) =
+        sum-ext (λ k. getD (held .set .weights) (i * w + k) (pos 0)) (λ k. pos K) n stored-at ∙ sum-equal K n in
         rw (size-is, all, distance-pos (K * n) (2 ^ P)) (box n P some many (exact .0) (exact .1))

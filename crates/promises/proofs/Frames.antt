@@ -17,7 +17,7 @@ pub sum-within-one : SumWithinOne
 sum-within-one w a b n p h = rw (total-add w a b n) (shifted-add p (total w a n) (total w b n) h)
 
 pub frames-within-one : FramesWithinOne
-frames-within-one s a b i j h = sum-within-one (weight s (pos 0) i) (sample s a i j) (sample s b i j) (size s i) (s .precision) h
+frames-within-one s a b i j h = sum-within-one (weight (s .set) (pos 0) i) (sample (s .set .layout) a i j) (sample (s .set .layout) b i j) (size (s .set .layout) i) (s .precision) h
 
 -- K v is nearer to v 2^P than half of 2^P, so it rounds to v
 flat : (K : ℤ) (M P v : ℕ) → 1 ≤ P → 2 * M * distance K (pos (2 ^ P)) < 2 ^ P → v ≤ M → shifted P (K *ℤ pos v) ≡ pos v

@@ -9,7 +9,8 @@ use lib.Ieee.{Float}
 use lib.ListN.{length, take}
 use Rattle.lists.specs.Tab.{tab}
 use Rattle.filters.specs.declared.FilterType.the-variants.{Box}
-use Rattle.windows.specs.Set.{Set, setOf, windows}
+use Rattle.windows.specs.Set.{layoutOf, Set, setOf, Stored, storedOf, windows}
+use Rattle.windows.specs.Store.{store32}
 use Rattle.coefficients.specs.declared.Request.{Request}
 use Rattle.coefficients.specs.declared.Built.{Built}
 use Rattle.coefficients.specs.Answer.{numberOf as numberOfBuilt, windowOf}
@@ -23,13 +24,13 @@ use Rattle.promises.specs.FlatFrames.{NearOne, Flat}
 -- the set that the builder leaves in three lent lists, its window size being w: the asked slots, starts and sizes, which are the lists' beginnings
 abbrev pub builtSet : Request → ℕ → List Float → List ℕ → List ℕ → ℕ → Set Float
 builtSet q lines ws ss zs w =
-    setOf lines w (take (q .output * w) (weightsOf q (length ws) (length ss) (length zs) ws))
-    (take (q .output) (startsOf q (length ws) (length ss) (length zs) ss))
-    (take (q .output) (sizesOf q (length ws) (length ss) (length zs) zs)) 0
+    setOf
+    (layoutOf lines w (take (q .output) (startsOf q (length ws) (length ss) (length zs) ss)) (take (q .output) (sizesOf q (length ws) (length ss) (length zs) zs)))
+    (take (q .output * w) (weightsOf q (length ws) (length ss) (length zs) ws))
 
 -- the set that the 32-bit normaliser leaves of a set in a lent list: the asked slots, with the precision P of its answer
-abbrev pub storedSet : Set Float → ℕ → List ℤ → Set ℤ
-storedSet s P out = setOf (s .lines) (s .window) (take (windows s * s .window) (writtenOf 46 31 s out)) (s .starts) (s .sizes) P
+abbrev pub storedSet : Set Float → ℕ → List ℤ → Stored
+storedSet s P out = storedOf (setOf (s .layout) (take (windows (s .layout) * s .layout .windowSize) (writtenOf store32 s out))) P
 
 -- a request, what is lent to the builder and to the 32-bit normaliser, and what they answer
 module _ (q : Request) (lines : ℕ) (ws : List Float) (ss zs : List ℕ) (out : List ℤ) where
@@ -40,13 +41,13 @@ module _ (q : Request) (lines : ℕ) (ws : List Float) (ss zs : List ℕ) (out :
   fresh = builtSet q lines ws ss zs (windowOf built)
 
   abbrev pub normal : Normalized
-  normal = normalizedOf 46 31 fresh (length out)
+  normal = normalizedOf store32 fresh (length out)
 
   -- Box was asked for, and both answered 0
   abbrev pub Accepted : Type 0
   Accepted = (q .filter ≡ Box) × (numberOfBuilt built ≡ 0) × (numberOfNormalized normal ≡ 0)
 
-  abbrev pub stored : Set ℤ
+  abbrev pub stored : Stored
   stored = storedSet fresh (precisionIn normal) out
 
 abbrev pub BoxPremise : Type 0

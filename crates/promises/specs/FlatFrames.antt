@@ -8,7 +8,7 @@ use lib.IntN.{ℤ, pos}
 use lib.ListN.{length, getD}
 use Rattle.lists.specs.Tab.{tab}
 use Rattle.integers.specs.Sums.{sum, distance, value}
-use Rattle.windows.specs.Set.{Set, windows, size, weight}
+use Rattle.windows.specs.Set.{Stored, windows, distanceOf}
 use Rattle.vertical.specs.Passed.{numberOf}
 use Rattle.vertical.specs.U16.{passed16, written16}
 
@@ -18,8 +18,8 @@ FlatUnchanged =
     (w : ℕ → ℤ) (n M P v : ℕ) → 1 ≤ P → 2 * M * distance (sum w n) (pos (2 ^ P)) < 2 ^ P → v ≤ M → value M P w (λ k. v) n ≡ v
 
 -- the premise for 16-bit samples, of window i of a set
-abbrev pub NearOne : Set ℤ → ℕ → Type 0
-NearOne s i = 131070 * distance (sum (weight s (pos 0) i) (size s i)) (pos (2 ^ s .precision)) < 2 ^ s .precision
+abbrev pub NearOne : Stored → ℕ → Type 0
+NearOne s i = 131070 * distanceOf s i < 2 ^ s .precision
 
 -- every sample of the frame is v
 abbrev pub Flat : ℕ → List ℕ → Type 0
@@ -28,6 +28,6 @@ Flat v src = (x : ℕ) → x < length src → getD src x 0 ≡ v
 -- the frame that the u16 pass writes, wherever it does not refuse: v in every place
 abbrev pub FlatFrame : Type 0
 FlatFrame =
-    (s : Set ℤ) (src : List ℕ) (row first count : ℕ) (old : List ℕ) (v : ℕ)
-    → numberOf (passed16 s src row first count (length old)) ≡ 0 → v ≤ 65535 → Flat v src → ((i : ℕ) → i < windows s → NearOne s i)
-    → written16 s src row first count old ≡ tab 0 (windows s * count) (λ k. v)
+    (s : Stored) (src : List ℕ) (row first count : ℕ) (old : List ℕ) (v : ℕ)
+    → numberOf (passed16 s src row first count (length old)) ≡ 0 → v ≤ 65535 → Flat v src → ((i : ℕ) → i < windows (s .set .layout) → NearOne s i)
+    → written16 s src row first count old ≡ tab 0 (windows (s .set .layout) * count) (λ k. v)

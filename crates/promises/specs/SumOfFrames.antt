@@ -4,7 +4,7 @@
 use Prim.Native.Nat.{ℕ, _+_, _≤_}
 use lib.IntN.{ℤ, _+ℤ_}
 use Rattle.integers.specs.Sums.{total, shifted, distance}
-use Rattle.windows.specs.Set.{Set}
+use Rattle.windows.specs.Set.{Stored}
 use Rattle.vertical.specs.U16.{roundedAt}
 
 -- w are the weights of the window's n lines, a and b the samples of the two frames there, p the precision
@@ -16,5 +16,5 @@ SumWithinOne =
 -- the same of the u16 pass's own value, at every window i and column j of a set; the frames are given by camera line and column
 abbrev pub FramesWithinOne : Type 0
 FramesWithinOne =
-    (s : Set ℤ) (a b : ℕ → ℕ → ℕ) (i j : ℕ) → 1 ≤ s .precision
+    (s : Stored) (a b : ℕ → ℕ → ℕ) (i j : ℕ) → 1 ≤ s .precision
     → distance (roundedAt s (λ line column. a line column + b line column) i j) (roundedAt s a i j +ℤ roundedAt s b i j) ≤ 1

@@ -10,7 +10,8 @@ use Rattle.floats.specs.Doubles.{double, _over_}
 use Rattle.integers.specs.Sums.{sum}
 use Rattle.numbers.specs.Whole.{roundAway, narrow}
 use Rattle.alpha.specs.Alpha.{multiplied, divided}
-use Rattle.windows.specs.Set.{setOf}
+use Rattle.windows.specs.Set.{layoutOf, setOf, storedOf}
+use Rattle.windows.specs.Store.{store16, store32}
 use Rattle.normalizer.specs.Precision.{precision, integer}
 use Rattle.vertical.specs.Frame.{frame}
 use Rattle.vertical.specs.U16.{valueAt}
@@ -28,7 +29,7 @@ third = double 1 over double 3
 
 -- the u16 pass at precision 4: one window over a frame of one column
 abbrev pub pass4 : List ℤ → List ℕ → ℕ
-pass4 weights samples = valueAt 65535 (setOf (length samples) (length weights) weights (0 ∷ []) (length weights ∷ []) 4) (frame 0 samples 1) 0 0
+pass4 weights samples = valueAt 65535 (storedOf (setOf (layoutOf (length samples) (length weights) (0 ∷ []) (length weights ∷ [])) weights) 4) (frame 0 samples 1) 0 0
 
 -- -4, 24, -4; and 8, 8
 abbrev pub sharp : List ℤ
@@ -48,9 +49,9 @@ TableOfFourteen =
     × (divided 200 0 ≡ 0)
     × ((divided 200 100 ≡ 255) × (divided 50 100 ≡ 128))
     -- 7. 16-bit, one weight 1.0; 8. three weights of 1/3, with their total; 9. 32-bit, one weight 1.0
-    × ((precision 22 15 (double 1 ∷ []) ≡ 14) × (integer 15 14 (double 1) ≡ pos 16384))
-    × ((precision 22 15 (third ∷ third ∷ third ∷ []) ≡ 16) × (integer 15 16 third ≡ pos 21845) × (sum (λ k. integer 15 16 third) 3 ≡ pos 65535))
-    × ((precision 46 31 (double 1 ∷ []) ≡ 30) × (integer 31 30 (double 1) ≡ pos 1073741824))
+    × ((precision store16 (double 1 ∷ []) ≡ 14) × (integer store16 14 (double 1) ≡ pos 16384))
+    × ((precision store16 (third ∷ third ∷ third ∷ []) ≡ 16) × (integer store16 16 third ≡ pos 21845) × (sum (λ k. integer store16 16 third) 3 ≡ pos 65535))
+    × ((precision store32 (double 1 ∷ []) ≡ 30) × (integer store32 30 (double 1) ≡ pos 1073741824))
     -- 10. samples 100, 200, 100; 11. the same weights at the ends of the range; 12. weights 8, 8
     × (pass4 sharp (100 ∷ 200 ∷ 100 ∷ []) ≡ 250)
     × ((pass4 sharp (65535 ∷ 0 ∷ 65535 ∷ []) ≡ 0) × (pass4 sharp (0 ∷ 65535 ∷ 0 ∷ []) ≡ 65535))

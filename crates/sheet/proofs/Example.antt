@@ -6,7 +6,8 @@ use Prim.Native.Nat.{ℕ}
 use lib.IntN.{ℤ, pos, negsuc}
 use Rattle.text.specs.Text.{digitCount, decimal, signed, fieldText, lineText}
 use Rattle.filters.specs.declared.FilterType.the-variants.{Box}
-use Rattle.windows.specs.Set.{setOf}
+use Rattle.windows.specs.Set.{layoutOf, setOf, storedOf}
+use Rattle.windows.specs.Store.{store32}
 use Rattle.sheet.specs.Keys.{kindName}
 use Rattle.sheet.specs.Text.{kindText, sidesText, storeText, headText, itemText, weightsText, openText, windowAt, windowsText, sheetText}
 
@@ -30,7 +31,7 @@ first = 119 ∷ 48 ∷ 61 ∷ 48 ∷ 44 ∷ 50 ∷ 58 ∷ 49 ∷ 48 ∷ 55 ∷ 5
 abbrev second : List ℕ
 second = 119 ∷ 49 ∷ 61 ∷ 50 ∷ 44 ∷ 50 ∷ 58 ∷ 49 ∷ 48 ∷ 55 ∷ 51 ∷ 55 ∷ 52 ∷ 49 ∷ 56 ∷ 50 ∷ 52 ∷ 44 ∷ 49 ∷ 48 ∷ 55 ∷ 51 ∷ 55 ∷ 52 ∷ 49 ∷ 56 ∷ 50 ∷ 52 ∷ 10 ∷ []
 
-pub example : sheetText Box 32 (setOf 4 3 weights (0 ∷ 2 ∷ []) (2 ∷ 2 ∷ []) 31) ≡ head ++ first ++ second
+pub example : sheetText Box store32 (storedOf (setOf (layoutOf 4 3 (0 ∷ 2 ∷ []) (2 ∷ 2 ∷ [])) weights) 31) ≡ head ++ first ++ second
 unfolding sheetText headText kindText sidesText storeText windowsText windowAt openText weightsText itemText signed fieldText lineText decimal digitCount kindName
 example = refl
 

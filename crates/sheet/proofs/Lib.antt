@@ -1,4 +1,3 @@
-pub mod JudgeLaws
 pub mod SheetLaws
 pub mod WriterLaws
 pub mod Sure

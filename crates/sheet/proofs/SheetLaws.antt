@@ -16,10 +16,12 @@ use Rattle.text.specs.Text.{laid, reached, joined, signed, fieldText, lineText}
 use Rattle.text.proofs.TextLaws.{reached-whole, Laid, laid-none, laid-here, laid-then, laid-byte, laid-piece, signed-small, joined-small, field-small, line-small}
 use Rattle.filters.specs.declared.FilterType.{FilterType}
 use Rattle.filters.specs.declared.FilterType.the-variants.{Box, Bilinear, CatmullRom, Mitchell}
-use Rattle.windows.specs.Set.{Set, windows}
+use Rattle.windows.specs.declared.Store.{Store}
+use Rattle.windows.specs.Set.{Stored, windows}
+use Rattle.windows.specs.Store.{weightBits}
+use Rattle.windows.specs.Fit.{Fits}
 use Rattle.sheet.specs.Keys.{keyIn, keyOut, keyWindow, keyStore, keyPrecision, keyLine, equals, comma, newline, kindName}
 use Rattle.sheet.specs.Text.{kindText, sidesText, storeText, headText, itemText, weightAt, weightsText, openText, windowAt, windowsText, sheetText}
-use Rattle.sheet.proofs.JudgeLaws.{Passed}
 
 name-small : (kind : FilterType) → length (kindName kind) ≤ 10
 unfolding kindName
@@ -56,21 +58,21 @@ window-small starts sizes window ws i h =
     simp length-append
     (omega (arith, open-small i (getD starts i 0) (getD sizes i 0), weights-small ws (i * window) (getD sizes i 0), h))
 
-windows-small : (s : Set ℤ) → Passed s → length (windowsText (s .starts) (s .sizes) (s .window) (s .weights)) ≤ 8192 * 200000
+windows-small : (s : Stored) → Fits (s .set .layout) (length (s .set .weights)) → length (windowsText (s .set .layout .starts) (s .set .layout .sizes) (s .set .layout .windowSize) (s .set .weights)) ≤ 8192 * 200000
 unfolding windowsText
 windows-small s p =
-    le-trans (joined-small (windowAt (s .starts) (s .sizes) (s .window) (s .weights)) 200000 (windows s) (λ k l. window-small (s .starts) (s .sizes) (s .window) (s .weights) k (p .short k l)))
-    (mul-le-mul-right 200000 (p .few))
+    le-trans (joined-small (windowAt (s .set .layout .starts) (s .set .layout .sizes) (s .set .layout .windowSize) (s .set .weights)) 200000 (windows (s .set .layout)) (λ k l. window-small (s .set .layout .starts) (s .set .layout .sizes) (s .set .layout .windowSize) (s .set .weights) k (omega (arith, p .ends k l, p .few-lines))))
+    (mul-le-mul-right 200000 (p .few-windows))
 
-sheet-small : (kind : FilterType) (store : ℕ) (s : Set ℤ) → Passed s → length (sheetText kind store s) < 2 ^ 64
+sheet-small : (kind : FilterType) (store : Store) (s : Stored) → Fits (s .set .layout) (length (s .set .weights)) → length (sheetText kind store s) < 2 ^ 64
 unfolding sheetText
 sheet-small kind store s p =
-    let head = headText kind (s .lines) (windows s) (s .window) store (s .precision) in
-    let rest = windowsText (s .starts) (s .sizes) (s .window) (s .weights) in
-    omega (arith, length-append head rest, head-small kind (s .lines) (windows s) (s .window) store (s .precision), windows-small s p)
+    let head = headText kind (s .set .layout .lines) (windows (s .set .layout)) (s .set .layout .windowSize) (weightBits store) (s .precision) in
+    let rest = windowsText (s .set .layout .starts) (s .set .layout .sizes) (s .set .layout .windowSize) (s .set .weights) in
+    omega (arith, length-append head rest, head-small kind (s .set .layout .lines) (windows (s .set .layout)) (s .set .layout .windowSize) (weightBits store) (s .precision), windows-small s p)
 
 -- so a run over any list counts it whole
-pub sheet-counted : (kind : FilterType) (store : ℕ) (s : Set ℤ) → Passed s → reached 0 (length (sheetText kind store s)) ≡ length (sheetText kind store s)
+pub sheet-counted : (kind : FilterType) (store : Store) (s : Stored) → Fits (s .set .layout) (length (s .set .weights)) → reached 0 (length (sheetText kind store s)) ≡ length (sheetText kind store s)
 sheet-counted kind store s p = reached-whole (length (sheetText kind store s)) (sheet-small kind store s p)
 
 -- a weight read from a list of either width and widened is itself
@@ -88,9 +90,9 @@ line-more starts sizes window ws i from {p = p} {now = now} first before e-a e-1
     laid-piece (windowAt starts sizes window ws) i before (l3 .place) (l3 .is)
 
 -- the head and the windows' lines are the whole sheet
-pub whole : (kind : FilterType) (store : ℕ) (s : Set ℤ) (old : List ℕ) {p q : ℕ} {now new : List ℕ} → length old < 2 ^ 64 → p ≡ reached 0 (length (headText kind (s .lines) (windows s) (s .window) store (s .precision))) → now ≡ laid old 0 (headText kind (s .lines) (windows s) (s .window) store (s .precision)) → q ≡ reached p (length (windowsText (s .starts) (s .sizes) (s .window) (s .weights))) → new ≡ laid now p (windowsText (s .starts) (s .sizes) (s .window) (s .weights)) → (q ≡ reached 0 (length (sheetText kind store s))) × (new ≡ laid old 0 (sheetText kind store s))
+pub whole : (kind : FilterType) (store : Store) (s : Stored) (old : List ℕ) {p q : ℕ} {now new : List ℕ} → length old < 2 ^ 64 → p ≡ reached 0 (length (headText kind (s .set .layout .lines) (windows (s .set .layout)) (s .set .layout .windowSize) (weightBits store) (s .precision))) → now ≡ laid old 0 (headText kind (s .set .layout .lines) (windows (s .set .layout)) (s .set .layout .windowSize) (weightBits store) (s .precision)) → q ≡ reached p (length (windowsText (s .set .layout .starts) (s .set .layout .sizes) (s .set .layout .windowSize) (s .set .weights))) → new ≡ laid now p (windowsText (s .set .layout .starts) (s .set .layout .sizes) (s .set .layout .windowSize) (s .set .weights)) → (q ≡ reached 0 (length (sheetText kind store s))) × (new ≡ laid old 0 (sheetText kind store s))
 unfolding sheetText
 whole kind store s old short e-p e-1 e-q e =
-    let l1 = laid-then (headText kind (s .lines) (windows s) (s .window) store (s .precision)) (laid-none 0 old (lit< tt) short) e-p e-1 in
-    let l2 = laid-then (windowsText (s .starts) (s .sizes) (s .window) (s .weights)) l1 e-q e in
+    let l1 = laid-then (headText kind (s .set .layout .lines) (windows (s .set .layout)) (s .set .layout .windowSize) (weightBits store) (s .precision)) (laid-none 0 old (lit< tt) short) e-p e-1 in
+    let l2 = laid-then (windowsText (s .set .layout .starts) (s .set .layout .sizes) (s .set .layout .windowSize) (s .set .weights)) l1 e-q e in
     (l2 .place, l2 .is)

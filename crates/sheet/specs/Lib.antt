@@ -1,4 +1,3 @@
 pub mod Answer
 pub mod Keys
-pub mod Readable
 pub mod Text

@@ -8,7 +8,9 @@ use lib.IntN.{ℤ, pos}
 use lib.ListN.{length, getD}
 use Rattle.text.specs.Text.{joined, signed, fieldText, lineText}
 use Rattle.filters.specs.declared.FilterType.{FilterType}
-use Rattle.windows.specs.Set.{Set, windows}
+use Rattle.windows.specs.declared.Store.{Store}
+use Rattle.windows.specs.Set.{Stored, windows}
+use Rattle.windows.specs.Store.{weightBits}
 use Rattle.sheet.specs.Keys.{newline, keyKind, keyIn, keyOut, keyWindow, keyStore, keyPrecision, keyLine, equals, comma, colon, kindName}
 
 -- the filter's line
@@ -51,7 +53,8 @@ windowAt starts sizes window ws i = openText i (getD starts i 0) (getD sizes i 0
 unfoldable pub windowsText : List ℕ → List ℕ → ℕ → List ℤ → List ℕ
 windowsText starts sizes window ws = joined (windowAt starts sizes window ws) (length starts)
 
--- the whole sheet of a set: `store` is 16 or 32
-unfoldable pub sheetText : FilterType → ℕ → Set ℤ → List ℕ
+-- the whole sheet of a stored set; the store is named by its weights' bits, 16 or 32
+unfoldable pub sheetText : FilterType → Store → Stored → List ℕ
 sheetText kind store s =
-    headText kind (s .lines) (windows s) (s .window) store (s .precision) ++ windowsText (s .starts) (s .sizes) (s .window) (s .weights)
+    headText kind (s .set .layout .lines) (windows (s .set .layout)) (s .set .layout .windowSize) (weightBits store) (s .precision)
+    ++ windowsText (s .set .layout .starts) (s .set .layout .sizes) (s .set .layout .windowSize) (s .set .weights)

@@ -6,8 +6,9 @@ ghost use mathlib.Core.Path.{_≡_};
 ghost use Prim.Native.Nat.{_+_, _^_, _<_, _≤_};
 ghost use lib.ListN.{length};
 ghost use Rattle.text.specs.Text.{laid, reached};
+ghost use Rattle.windows.specs.Set.{layoutOf};
+ghost use Rattle.windows.specs.Fit.{Fits};
 ghost use Rattle.sheet.specs.Text.{weightsText, windowsText};
-ghost use Rattle.sheet.specs.Readable.{Readable};
 
 // `size` weights from the slot `from` on.
 fn put_weights32(weights: &[i32], from: usize, size: u32, at: usize, out: &mut [u8]) -> usize
@@ -34,7 +35,7 @@ pub(crate) fn put_windows32(
     at: usize,
     out: &mut [u8],
 ) -> usize
-    requires { ⌜ Readable (now starts) (now sizes) window (length (now weights)) ⌝ }
+    requires { ⌜ Fits (layoutOf 8192 window (now starts) (now sizes)) (length (now weights)) ⌝ }
     ensures answer { λ r. ⌜ r ≡ reached at (length (windowsText (now (starts .entry)) (now (sizes .entry)) window (now (weights .entry)))) ⌝ }
     ensures written { λ _. ⌜ now (out .exit) ≡ laid (now (out .entry)) at (windowsText (now (starts .entry)) (now (sizes .entry)) window (now (weights .entry))) ⌝ }
 {

@@ -5,18 +5,20 @@ use mathlib.Core.List.{List}
 use Prim.Native.Nat.{ℕ, _+_, _*_, _≤_}
 use lib.Dec.{eqb, ltb}
 use lib.Ieee.{Float}
-use lib.IntN.{ℤ}
 use lib.ListN.{length}
 use borrow.Author.Tests.{ltb-false, eqb-true, not-false, le-ltb, eq-eqb}
+use Rattle.lists.specs.Ranges.{outside, badSides}
 use Rattle.lists.proofs.BoolLaws.{never, ladder, or-left, or-right}
+use Rattle.lists.proofs.RangeLaws.{InRange, not-outside}
 use Rattle.refusal.specs.declared.Refusal.{Refusal}
-use Rattle.windows.specs.Fit.{outside, badSides, badSet}
-use Rattle.windows.specs.Set.{Set, windows}
-use Rattle.windows.proofs.Fits.{Within, not-outside, Sides, sides-fit, Fits, set-fits}
+use Rattle.windows.specs.Set.{Set, Stored, windows}
+use Rattle.windows.specs.Store.{store32, badPrecision}
+use Rattle.windows.specs.Fit.{badSet, Fits}
+use Rattle.windows.proofs.Fits.{fits}
 use Rattle.vertical.specs.declared.Passed.{Passed}
 use Rattle.vertical.specs.declared.Passed.the-variants.{Done, Refused}
 use Rattle.vertical.specs.Frame.{badFrame, badRange, sizeBad, shapeBad}
-use Rattle.vertical.specs.U16.{passed16, badPrecision}
+use Rattle.vertical.specs.U16.{passed16}
 use Rattle.vertical.specs.F32.{passed32, badWeights, badSamples}
 
 abbrev done : Passed → Bool
@@ -29,52 +31,50 @@ refused h = never (sym (ap done h))
 
 -- sides, set, frame and columns fit: neither pass refuses for these
 pub record Shaped {W : Type 0} (s : Set W) (samples row first count room : ℕ) : Type 0 where
-  pub sides : Sides (s .lines) (windows s)
-  pub narrow : Within 1 32768 row
-  pub set : Fits (s .lines) (s .window) (length (s .weights)) (s .starts) (s .sizes)
-  pub whole : samples ≡ s .lines * row
+  pub narrow : InRange 1 32768 row
+  pub set : Fits (s .layout) (length (s .weights))
+  pub whole : samples ≡ s .layout .lines * row
   pub fit : first + count ≤ row
-  pub rooms : room ≡ windows s * count
+  pub rooms : room ≡ windows (s .layout) * count
 
 module _ {W : Type 0} (s : Set W) (samples row first count room : ℕ) where
   abbrev set : Bool
-  set = badSet (s .lines) (s .window) (length (s .weights)) (s .starts) (s .sizes)
+  set = badSet (s .layout) (length (s .weights))
 
   abbrev frame : Bool
-  frame = badFrame samples (s .lines) row
+  frame = badFrame samples (s .layout .lines) row
 
   abbrev full : Bool
-  full = eqb room (windows s * count)
+  full = eqb room (windows (s .layout) * count)
 
   pub shaped : sizeBad s row ≡ false → shapeBad s samples row first count room ≡ false → Shaped s samples row first count room
   shaped size shape =
-      let lists = or-left (set || frame) (badRange row first count (windows s) room) shape in
-      let range = or-right (set || frame) (badRange row first count (windows s) room) shape in record {
-        sides = sides-fit (s .lines) (windows s) (or-left (badSides (s .lines) (windows s)) (outside 1 32768 row) size);
-        narrow = not-outside 1 32768 row (or-right (badSides (s .lines) (windows s)) (outside 1 32768 row) size);
-        set = set-fits (s .lines) (s .window) (length (s .weights)) (s .starts) (s .sizes) (or-left set frame lists);
-        whole = eqb-true samples (s .lines * row) (not-false (eqb samples (s .lines * row)) (or-right set frame lists));
+      let lists = or-left (set || frame) (badRange row first count (windows (s .layout)) room) shape in
+      let range = or-right (set || frame) (badRange row first count (windows (s .layout)) room) shape in record {
+        narrow = not-outside 1 32768 row (or-right (badSides (s .layout .lines) (windows (s .layout))) (outside 1 32768 row) size);
+        set = fits (s .layout) (length (s .weights)) (or-left (badSides (s .layout .lines) (windows (s .layout))) (outside 1 32768 row) size) (or-left set frame lists);
+        whole = eqb-true samples (s .layout .lines * row) (not-false (eqb samples (s .layout .lines * row)) (or-right set frame lists));
         fit = ltb-false row (first + count) (or-left (ltb row (first + count)) (not full) range);
-        rooms = eqb-true room (windows s * count) (not-false full (or-right (ltb row (first + count)) (not full) range));
+        rooms = eqb-true room (windows (s .layout) * count) (not-false full (or-right (ltb row (first + count)) (not full) range));
       }
 
   -- another range of columns that fits
-  pub reshaped : shapeBad s samples row first count room ≡ false → (first₂ count₂ room₂ : ℕ) → first₂ + count₂ ≤ row → room₂ ≡ windows s * count₂ → shapeBad s samples row first₂ count₂ room₂ ≡ false
+  pub reshaped : shapeBad s samples row first count room ≡ false → (first₂ count₂ room₂ : ℕ) → first₂ + count₂ ≤ row → room₂ ≡ windows (s .layout) * count₂ → shapeBad s samples row first₂ count₂ room₂ ≡ false
   reshaped shape first₂ count₂ room₂ fit rooms =
-      rw (or-left (set || frame) (badRange row first count (windows s) room) shape, le-ltb row (first₂ + count₂) fit, eq-eqb room₂ (windows s * count₂) rooms)
+      rw (or-left (set || frame) (badRange row first count (windows (s .layout)) room) shape, le-ltb row (first₂ + count₂) fit, eq-eqb room₂ (windows (s .layout) * count₂) rooms)
 
 -- each test of the u16 pass failed
-pub record Tests16 (s : Set ℤ) (src : List ℕ) (row first count room : ℕ) : Type 0 where
-  pub size : sizeBad s row ≡ false
-  pub shape : shapeBad s (length src) row first count room ≡ false
-  pub precision : badPrecision s ≡ false
+pub record Tests16 (s : Stored) (src : List ℕ) (row first count room : ℕ) : Type 0 where
+  pub size : sizeBad (s .set) row ≡ false
+  pub shape : shapeBad (s .set) (length src) row first count room ≡ false
+  pub precision : badPrecision store32 (s .precision) ≡ false
 
-pub tests16 : (s : Set ℤ) (src : List ℕ) (row first count room : ℕ) → passed16 s src row first count room ≡ Done → Tests16 s src row first count room
+pub tests16 : (s : Stored) (src : List ℕ) (row first count room : ℕ) → passed16 s src row first count room ≡ Done → Tests16 s src row first count room
 unfolding passed16
 tests16 s src row first count room h =
-    let size = ladder (sizeBad s row) refused h in
-    let shape = ladder (shapeBad s (length src) row first count room) refused (size .1) in
-    let precision = ladder (badPrecision s) refused (shape .1) in
+    let size = ladder (sizeBad (s .set) row) refused h in
+    let shape = ladder (shapeBad (s .set) (length src) row first count room) refused (size .1) in
+    let precision = ladder (badPrecision store32 (s .precision)) refused (shape .1) in
     record { size = size .0; shape = shape .0; precision = precision .0 }
 
 -- each test of the f32 pass failed

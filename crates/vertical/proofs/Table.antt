@@ -9,7 +9,7 @@ use lib.Ieee.{Float, nan, binary32, binary64, add, mul, round, ofBits, toBits, s
 use lib.ListN.{length}
 use Rattle.integers.specs.Sums.{sum, shifted, clipped}
 use Rattle.numbers.specs.Whole.{narrow}
-use Rattle.windows.specs.Set.{setOf}
+use Rattle.windows.specs.Set.{layoutOf, setOf, storedOf}
 use Rattle.vertical.specs.Frame.{frame}
 use Rattle.vertical.specs.U16.{valueAt}
 use Rattle.vertical.specs.F32.{valueAt32}
@@ -17,7 +17,7 @@ use Rattle.vertical.specs.F32.{valueAt32}
 -- precision 4, the weights and samples of one window
 abbrev pub pass4 : List ℤ → List ℕ → ℕ
 pass4 weights src =
-    valueAt 65535 (setOf (length src) (length weights) weights (0 ∷ []) (length weights ∷ []) 4) (frame 0 src 1) 0 0
+    valueAt 65535 (storedOf (setOf (layoutOf (length src) (length weights) (0 ∷ []) (length weights ∷ [])) weights) 4) (frame 0 src 1) 0 0
 
 abbrev pub sharp : List ℤ
 sharp = negsuc 3 ∷ pos 24 ∷ negsuc 3 ∷ []
@@ -36,7 +36,7 @@ rows-10-to-12 = (refl, (refl, refl), (refl, refl, refl))
 
 abbrev pub pass32 : List Float → List Float → ℕ
 pass32 weights src =
-    toBits binary32 (valueAt32 (setOf (length src) (length weights) weights (0 ∷ []) (length weights ∷ []) 0) (frame nan src 1) 0 0)
+    toBits binary32 (valueAt32 (setOf (layoutOf (length src) (length weights) (0 ∷ []) (length weights ∷ [])) weights) (frame nan src 1) 0 0)
 
 -- the double with these bits
 abbrev double : ℕ → Float

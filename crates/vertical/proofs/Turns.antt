@@ -10,30 +10,26 @@ use lib.Seq.{ext-getD}
 use Rattle.lists.specs.Tab.{grid}
 use Rattle.lists.proofs.TabLaws.{row-end, length-tab, getD-tab}
 use Rattle.windows.specs.Set.{Set}
+use Rattle.windows.proofs.Fits.{fits-most}
 use Rattle.vertical.specs.Frame.{output}
 use Rattle.vertical.specs.Ready.{Ready}
 use Rattle.vertical.proofs.Answers.{Shaped}
 use Rattle.vertical.proofs.Columns.{some-column}
 
 -- the judge's answer gives what the loop asks
-pub ready : {W : Type 0} (s : Set W) (samples row first count room : ℕ) → Shaped s samples row first count room → Ready samples row first count (s .starts) (s .sizes) (s .window) (length (s .weights)) room
+pub ready : {W : Type 0} (s : Set W) (samples row first count room : ℕ) → Shaped s samples row first count room → Ready samples row first count (s .layout .starts) (s .layout .sizes) (s .layout .windowSize) (length (s .weights)) room
 ready s samples row first count room h = record {
+  set = fits-most (s .layout) (length (s .weights)) (h .set);
   narrow = h .narrow .most;
   fit = h .fit;
-  lines = omega (arith, h .whole, mul-le-mul-right row (h .sides .camera .most));
-  many = h .sides .display .most;
-  pairs = h .set .counts .pairs;
-  full = h .set .counts .full;
-  wide = h .set .counts .wide .most;
+  lines = omega (arith, h .whole, mul-le-mul-right row (h .set .few-lines));
   rooms = h .rooms;
-  small = λ i l. h .set .each i l .most;
-  ends = λ i l. omega (arith, h .set .each i l, h .sides .camera);
-  inside = λ i l. omega (arith, h .whole, mul-le-mul-right row (h .set .each i l .ends));
+  inside = λ i l. omega (arith, h .whole, mul-le-mul-right row (h .set .ends i l));
 }
 
 -- at one window: its weights, its row of the output and its lines of the frame are there, and no index passes a usize
-pub record Turn (samples row first count : ℕ) (starts sizes : List ℕ) (window slots room i : ℕ) : Type 0 where
-  pub weights : i * window + getD sizes i 0 ≤ slots
+pub record Turn (samples row first count : ℕ) (starts sizes : List ℕ) (windowSize slots room i : ℕ) : Type 0 where
+  pub weights : i * windowSize + getD sizes i 0 ≤ slots
   pub weights-few : slots < 2 ^ 30
   pub outputs : i * count + count ≤ room
   pub outputs-few : room < 2 ^ 30
@@ -42,8 +38,8 @@ pub record Turn (samples row first count : ℕ) (starts sizes : List ℕ) (windo
   pub few : getD sizes i 0 ≤ 8192
   pub lines : (k : ℕ) → k < getD sizes i 0 → getD starts i 0 * row + first + k * row + count ≤ samples
 
-module _ (samples row first count : ℕ) (starts sizes : List ℕ) (window slots room : ℕ)
-    (r : Ready samples row first count starts sizes window slots room) (i : ℕ) (h : i < length starts) where
+module _ (samples row first count : ℕ) (starts sizes : List ℕ) (windowSize slots room : ℕ)
+    (r : Ready samples row first count starts sizes windowSize slots room) (i : ℕ) (h : i < length starts) where
   all : getD starts i 0 * row ≤ samples
   all = omega (arith, add-mul (getD starts i 0) (getD sizes i 0) row, r .inside i h)
 
@@ -51,15 +47,15 @@ module _ (samples row first count : ℕ) (starts sizes : List ℕ) (window slots
   frame-lines k g =
       omega (arith, add-mul (getD starts i 0) (getD sizes i 0) row, r .inside i h, row-end k (getD sizes i 0) row g, r .fit)
 
-  pub turn-at : Turn samples row first count starts sizes window slots room i
+  pub turn-at : Turn samples row first count starts sizes windowSize slots room i
   turn-at = record {
-    weights = omega (arith, row-end i (length starts) window h, r .full, r .small i h);
-    weights-few = omega (arith, r .full, mul-le-mul (r .many) (r .wide));
+    weights = omega (arith, row-end i (length starts) windowSize h, r .set .full, r .set .small i h);
+    weights-few = omega (arith, r .set .full, mul-le-mul (r .set .few-windows) (r .set .few-slots));
     outputs = omega (arith, row-end i (length starts) count h, r .rooms);
-    outputs-few = (let l : count ≤ 32768 = omega (arith, r .fit, r .narrow) in omega (arith, r .rooms, mul-le-mul (r .many) l));
+    outputs-few = (let l : count ≤ 32768 = omega (arith, r .fit, r .narrow) in omega (arith, r .rooms, mul-le-mul (r .set .few-windows) l));
     first-line = omega (arith, all, r .lines, r .narrow);
     columns = omega (arith, r .fit, r .narrow);
-    few = omega (arith, r .ends i h);
+    few = omega (arith, r .set .ends i h);
     lines = frame-lines;
   }
 

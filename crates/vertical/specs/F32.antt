@@ -18,22 +18,22 @@ use Rattle.vertical.specs.Frame.{frame, output, sizeBad, shapeBad}
 
 -- window i at column j: from +0 in line order, sample x weight added in binary64; narrowed at the end
 abbrev pub valueAt32 : Set Float → (ℕ → ℕ → Float) → ℕ → ℕ → Float
-valueAt32 s samples i j = narrow (turns (λ t k. add binary64 t (mul binary64 (sample s samples i j k) (weight s nan i k))) (ofBits binary64 0) (size s i))
+valueAt32 s samples i j = narrow (turns (λ t k. add binary64 t (mul binary64 (sample (s .layout) samples i j k) (weight s nan i k))) (ofBits binary64 0) (size (s .layout) i))
 
 -- No. 12: a weight in use that is not finite, or above 2^64 in size
 abbrev pub badWeight : Set Float → ℕ → ℕ → Bool
 badWeight s i k = not (isFinite (weight s nan i k)) || lt (ofInt binary64 (pos 18446744073709551616)) (abs (weight s nan i k))
 
 abbrev pub badWeights : Set Float → Bool
-badWeights s = any (windows s) (λ i. any (size s i) (badWeight s i))
+badWeights s = any (windows (s .layout)) (λ i. any (size (s .layout) i) (badWeight s i))
 
 module _ (s : Set Float) (src : List Float) (row first count : ℕ) where
   -- No. 12: a sample in use that is not finite, on line k of window i
   abbrev pub badLine : ℕ → ℕ → Bool
-  badLine i k = any count (λ j. not (isFinite (sample s (frame nan src row) i (first + j) k)))
+  badLine i k = any count (λ j. not (isFinite (sample (s .layout) (frame nan src row) i (first + j) k)))
 
   abbrev pub badSamples : Bool
-  badSamples = any (windows s) (λ i. any (size s i) (badLine i))
+  badSamples = any (windows (s .layout)) (λ i. any (size (s .layout) i) (badLine i))
 
   -- the answer, where the output has room for so many samples
   unfoldable pub passed32 : ℕ → Passed
@@ -45,4 +45,4 @@ module _ (s : Set Float) (src : List Float) (row first count : ℕ) where
       Done)))
 
   unfoldable pub written32 : List Float → List Float
-  written32 old = after (passed32 (length old)) (output (valueAt32 s (frame nan src row)) (windows s) first count) old
+  written32 old = after (passed32 (length old)) (output (valueAt32 s (frame nan src row)) (windows (s .layout)) first count) old

@@ -5,9 +5,10 @@ use mathlib.Core.List.{List}
 use Prim.Native.Nat.{ℕ, _+_, _*_}
 use lib.Dec.{eqb, ltb}
 use lib.ListN.{length, getD}
+use Rattle.lists.specs.Ranges.{outside, badSides}
 use Rattle.lists.specs.Tab.{tab, grid}
-use Rattle.windows.specs.Fit.{outside, badSides, badSet}
-use Rattle.windows.specs.Set.{Set, windows}
+use Rattle.windows.specs.Set.{Layout, Set, windows}
+use Rattle.windows.specs.Fit.{badSet}
 
 -- the sample of a camera line at a column, where the lines stand one after the other in rows of `row` samples; d stands for a sample that is not there
 abbrev pub frame : {A : Type 0} → A → List A → ℕ → ℕ → ℕ → A
@@ -34,14 +35,13 @@ abbrev pub badRange : ℕ → ℕ → ℕ → ℕ → ℕ → Bool
 badRange row first count windows room = ltb row (first + count) || not (eqb room (windows * count))
 
 -- No. 10 of both passes: the set, the frame, or the columns
-abbrev pub badShape : ℕ → ℕ → ℕ → ℕ → ℕ → ℕ → ℕ → List ℕ → List ℕ → ℕ → Bool
-badShape samples lines row first count window slots starts sizes room =
-    (badSet lines window slots starts sizes || badFrame samples lines row) || badRange row first count (length starts) room
+abbrev pub badShape : Layout → ℕ → ℕ → ℕ → ℕ → ℕ → ℕ → Bool
+badShape l slots samples row first count room = (badSet l slots || badFrame samples (l .lines) row) || badRange row first count (windows l) room
 
 -- the same of a set
 module _ {W : Type 0} (s : Set W) where
   abbrev pub sizeBad : ℕ → Bool
-  sizeBad row = badSize (s .lines) (windows s) row
+  sizeBad row = badSize (s .layout .lines) (windows (s .layout)) row
 
   abbrev pub shapeBad : ℕ → ℕ → ℕ → ℕ → ℕ → Bool
-  shapeBad samples row first count room = badShape samples (s .lines) row first count (s .window) (length (s .weights)) (s .starts) (s .sizes) room
+  shapeBad samples row first count room = badShape (s .layout) (length (s .weights)) samples row first count room

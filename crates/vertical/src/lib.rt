@@ -7,6 +7,7 @@ use windows::set_fits;
 use windows::sides_fit;
 ghost use mathlib.Core.Path.{_≡_};
 ghost use mathlib.Core.Bool.{not};
+ghost use Rattle.windows.specs.Set.{layoutOf};
 ghost use Rattle.vertical.specs.Frame.{badSize, badRange, badShape};
 
 pub enum Passed {
@@ -33,15 +34,15 @@ pub fn shape_fits(
     row: u32,
     first: u32,
     count: u32,
-    window: u32,
+    window_size: u32,
     slots: usize,
     starts: &[u32],
     sizes: &[u32],
     room: usize,
 ) -> bool
-    ensures answer { λ r. ⌜ r ≡ not (badShape samples lines row first count window slots (now (starts .entry)) (now (sizes .entry)) room) ⌝ }
+    ensures answer { λ r. ⌜ r ≡ not (badShape (layoutOf lines «window_size» (now (starts .entry)) (now (sizes .entry))) slots samples row first count room) ⌝ }
 {
-    if !set_fits(lines, window, slots, starts, sizes) {
+    if !set_fits(lines, window_size, slots, starts, sizes) {
         return false;
     }
     if !fills(samples, lines as usize, row) {

@@ -38,10 +38,10 @@ module _ (s : Set Float) (src : List Float) (row first count : ℕ) (old : List 
     unfolding passed32 written32
     bad-samples weights samples = (rw (size, shape, weights, samples), rw (size, shape, weights, samples))
 
-    pub done : badWeights s ≡ false → badSamples s src row first count ≡ false → (new : List Float) → length new ≡ length old → ((i : ℕ) → i < windows s → (j : ℕ) → j < count → getD new (i * count + j) nan ≡ windowValue src row first (s .starts) (s .sizes) (s .window) (s .weights) i j) → Meets Done new
+    pub done : badWeights s ≡ false → badSamples s src row first count ≡ false → (new : List Float) → length new ≡ length old → ((i : ℕ) → i < windows (s .layout) → (j : ℕ) → j < count → getD new (i * count + j) nan ≡ windowValue src row first (s .layout .starts) (s .layout .sizes) (s .layout .windowSize) (s .weights) i j) → Meets Done new
     unfolding passed32 written32
     done weights samples new long each =
         let rooms = shaped s (length src) row first count (length old) size shape .rooms in
-        let is : new ≡ output (valueAt32 s (frame nan src row)) (windows s) first count =
-        output-is nan (valueAt32 s (frame nan src row)) (windows s) first count new (long ∙ rooms) (λ i l j k. each i l j k ∙ value-is s src row first i j) in
+        let is : new ≡ output (valueAt32 s (frame nan src row)) (windows (s .layout)) first count =
+        output-is nan (valueAt32 s (frame nan src row)) (windows (s .layout)) first count new (long ∙ rooms) (λ i l j k. each i l j k ∙ value-is s src row first i j) in
         (rw (size, shape, weights, samples), rw (size, shape, weights, samples) is)

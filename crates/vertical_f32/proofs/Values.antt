@@ -21,9 +21,9 @@ sum-is ws src at row w s zero hw hs = refl
 sum-is ws src at row w s (suc n) hw hs =
     rw (sum-is ws src at row w s n (λ k l. hw k (omega arith)) (λ k l. hs k (omega arith)), hw n (omega arith), hs n (omega arith))
 
-pub value-is : (s : Set Float) (src : List Float) (row first i j : ℕ) → windowValue src row first (s .starts) (s .sizes) (s .window) (s .weights) i j ≡ valueAt32 s (frame nan src row) i (first + j)
+pub value-is : (s : Set Float) (src : List Float) (row first i j : ℕ) → windowValue src row first (s .layout .starts) (s .layout .sizes) (s .layout .windowSize) (s .weights) i j ≡ valueAt32 s (frame nan src row) i (first + j)
 value-is s src row first i j =
     ap narrow
-    (sum-is (take (size s i) (drop (i * s .window) (s .weights))) src (start s i * row + first + j) row (weight s nan i) (sample s (frame nan src row) i (first + j)) (size s i)
-    (λ k l. getD-take (size s i) (drop (i * s .window) (s .weights)) k nan l ∙ getD-drop (i * s .window) (s .weights) k nan)
-    (λ k l. ap (λ (n : ℕ). getD src n nan) (omega (arith, add-mul (start s i) k row))))
+    (sum-is (take (size (s .layout) i) (drop (i * s .layout .windowSize) (s .weights))) src (start (s .layout) i * row + first + j) row (weight s nan i) (sample (s .layout) (frame nan src row) i (first + j)) (size (s .layout) i)
+    (λ k l. getD-take (size (s .layout) i) (drop (i * s .layout .windowSize) (s .weights)) k nan l ∙ getD-drop (i * s .layout .windowSize) (s .weights) k nan)
+    (λ k l. ap (λ (n : ℕ). getD src n nan) (omega (arith, add-mul (start (s .layout) i) k row))))

@@ -17,7 +17,7 @@ use vertical::size_fits;
 use weights::weights_fit;
 ghost use mathlib.Core.Path.{_≡_};
 ghost use lib.ListN.{length};
-ghost use Rattle.windows.specs.Set.{setOf};
+ghost use Rattle.windows.specs.Set.{layoutOf, setOf};
 ghost use Rattle.vertical.specs.F32.{passed32, written32};
 
 // The value of every window at every column of the range, in `out`; refused with `out` unchanged exactly where document 01 says so.
@@ -30,11 +30,11 @@ pub fn vert_convolution_f32(
     weights: &[f64],
     starts: &[u32],
     sizes: &[u32],
-    window: u32,
+    window_size: u32,
     out: &mut [f32],
 ) -> Passed
-    ensures answer { λ r. ⌜ r ≡ passed32 (setOf lines window (now (weights .entry)) (now (starts .entry)) (now (sizes .entry)) 0) (now (src .entry)) row first count (length (now (out .entry))) ⌝ }
-    ensures written { λ _. ⌜ now (out .exit) ≡ written32 (setOf lines window (now (weights .entry)) (now (starts .entry)) (now (sizes .entry)) 0) (now (src .entry)) row first count (now (out .entry)) ⌝ }
+    ensures answer { λ r. ⌜ r ≡ passed32 (setOf (layoutOf lines «window_size» (now (starts .entry)) (now (sizes .entry))) (now (weights .entry))) (now (src .entry)) row first count (length (now (out .entry))) ⌝ }
+    ensures written { λ _. ⌜ now (out .exit) ≡ written32 (setOf (layoutOf lines «window_size» (now (starts .entry)) (now (sizes .entry))) (now (weights .entry))) (now (src .entry)) row first count (now (out .entry)) ⌝ }
 {
     if !size_fits(lines, starts.len(), row) {
         return Passed::Refused(Refusal::BadSide);
@@ -45,7 +45,7 @@ pub fn vert_convolution_f32(
         row,
         first,
         count,
-        window,
+        window_size,
         weights.len(),
         starts,
         sizes,
@@ -53,7 +53,7 @@ pub fn vert_convolution_f32(
     ) {
         return Passed::Refused(Refusal::DoesNotFit);
     }
-    if !weights_fit(weights, starts, sizes, window as usize) {
+    if !weights_fit(weights, starts, sizes, window_size as usize) {
         return Passed::Refused(Refusal::SampleOutside);
     }
     if !samples_fit(
@@ -74,7 +74,7 @@ pub fn vert_convolution_f32(
         weights,
         starts,
         sizes,
-        window as usize,
+        window_size as usize,
         out,
     );
     Passed::Done

@@ -10,9 +10,11 @@ use rows::rows;
 use vertical::Passed;
 use vertical::shape_fits;
 use vertical::size_fits;
+use windows::STORE32;
+use windows::precision_fits;
 ghost use mathlib.Core.Path.{_≡_};
 ghost use lib.ListN.{length};
-ghost use Rattle.windows.specs.Set.{setOf};
+ghost use Rattle.windows.specs.Set.{layoutOf, setOf, storedOf};
 ghost use Rattle.vertical.specs.U16.{passed16, written16};
 
 // The value of every window at every column of the range, in `out`; refused with `out` unchanged exactly where document 01 says so.
@@ -25,12 +27,12 @@ pub fn vert_convolution_u16(
     weights: &[i32],
     starts: &[u32],
     sizes: &[u32],
-    window: u32,
+    window_size: u32,
     precision: u32,
     out: &mut [u16],
 ) -> Passed
-    ensures answer { λ r. ⌜ r ≡ passed16 (setOf lines window (now (weights .entry)) (now (starts .entry)) (now (sizes .entry)) precision) (now (src .entry)) row first count (length (now (out .entry))) ⌝ }
-    ensures written { λ _. ⌜ now (out .exit) ≡ written16 (setOf lines window (now (weights .entry)) (now (starts .entry)) (now (sizes .entry)) precision) (now (src .entry)) row first count (now (out .entry)) ⌝ }
+    ensures answer { λ r. ⌜ r ≡ passed16 (storedOf (setOf (layoutOf lines «window_size» (now (starts .entry)) (now (sizes .entry))) (now (weights .entry))) precision) (now (src .entry)) row first count (length (now (out .entry))) ⌝ }
+    ensures written { λ _. ⌜ now (out .exit) ≡ written16 (storedOf (setOf (layoutOf lines «window_size» (now (starts .entry)) (now (sizes .entry))) (now (weights .entry))) precision) (now (src .entry)) row first count (now (out .entry)) ⌝ }
 {
     if !size_fits(lines, starts.len(), row) {
         return Passed::Refused(Refusal::BadSide);
@@ -41,7 +43,7 @@ pub fn vert_convolution_u16(
         row,
         first,
         count,
-        window,
+        window_size,
         weights.len(),
         starts,
         sizes,
@@ -49,7 +51,7 @@ pub fn vert_convolution_u16(
     ) {
         return Passed::Refused(Refusal::DoesNotFit);
     }
-    if (precision < 4) | (45 < precision) {
+    if !precision_fits(STORE32, precision) {
         return Passed::Refused(Refusal::DoesNotFit);
     }
     rows(
@@ -60,7 +62,7 @@ pub fn vert_convolution_u16(
         weights,
         starts,
         sizes,
-        window as usize,
+        window_size as usize,
         precision,
         out,
     );

@@ -1,2 +1,3 @@
-pub mod Fit
 pub mod Set
+pub mod Store
+pub mod Fit

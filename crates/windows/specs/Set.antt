@@ -1,45 +1,71 @@
--- A set of windows with their weights, as one record, and how its lists are read. Cited by the contracts of the passes and the sheet writer, and by the
--- promises. Definitions only. Assumes nothing.
+-- Windows over camera lines, the weights that stand in their slots, and a set that was stored as integers, with how their lists are read. Cited by the contracts
+-- of the normalisers, the passes and the sheet writer, and by the promises. Definitions only. Assumes nothing.
+use mathlib.Core.Bool.{Bool}
 use mathlib.Core.List.{List}
-use Prim.Native.Nat.{ℕ, _+_, _*_}
+use Prim.Native.Nat.{ℕ, _+_, _*_, _/_, _%_, _^_}
+use lib.Dec.{ltb}
+use lib.IntN.{ℤ, pos}
 use lib.ListN.{length, getD}
+use Rattle.integers.specs.Sums.{sum, distance}
 
--- windows over `lines` camera lines, one for each display line: its first camera line in `starts`, its count of lines in `sizes`, its weights in `window`
--- slots of `weights`. The precision is 0 for a set of doubles
-pub record Set (W : Type 0) : Type 0 where
+-- windows over `lines` camera lines, one for each display line: its first camera line in `starts`, its count of lines in `sizes`; each has `windowSize` slots
+pub record Layout : Type 0 where
   pub lines : ℕ
-  pub window : ℕ
-  pub weights : List W
+  pub windowSize : ℕ
   pub starts : List ℕ
   pub sizes : List ℕ
-  pub precision : ℕ
 
-abbrev pub setOf : {W : Type 0} → ℕ → ℕ → List W → List ℕ → List ℕ → ℕ → Set W
-setOf lines window weights starts sizes precision = record {
+abbrev pub layoutOf : ℕ → ℕ → List ℕ → List ℕ → Layout
+layoutOf lines windowSize starts sizes = record {
   lines = lines;
-  window = window;
-  weights = weights;
+  windowSize = windowSize;
   starts = starts;
   sizes = sizes;
-  precision = precision;
 }
 
-module _ {W : Type 0} (s : Set W) where
+-- slot k is in use: its place in its window is below the window's size
+abbrev pub inUse : ℕ → List ℕ → ℕ → Bool
+inUse windowSize sizes k = ltb (k % windowSize) (getD sizes (k / windowSize) 0)
+
+module _ (l : Layout) where
   -- how many windows, which is how many display lines
   abbrev pub windows : ℕ
-  windows = length (s .starts)
+  windows = length (l .starts)
 
   -- the first camera line of window i, and how many it has
   abbrev pub start : ℕ → ℕ
-  start i = getD (s .starts) i 0
+  start i = getD (l .starts) i 0
 
   abbrev pub size : ℕ → ℕ
-  size i = getD (s .sizes) i 0
-
-  -- the weight of line k of window i; d stands for a slot that is not there
-  abbrev pub weight : W → ℕ → ℕ → W
-  weight d i k = getD (s .weights) (i * s .window + k) d
+  size i = getD (l .sizes) i 0
 
   -- the sample of line k of window i at column j, of a frame given by camera line and column
   abbrev pub sample : {A : Type 0} → (ℕ → ℕ → A) → ℕ → ℕ → ℕ → A
   sample frame i j k = frame (start i + k) j
+
+-- a layout with weights in its slots, window after window
+pub record Set (W : Type 0) : Type 0 where
+  pub layout : Layout
+  pub weights : List W
+
+abbrev pub setOf : {W : Type 0} → Layout → List W → Set W
+setOf layout weights = record { layout = layout; weights = weights }
+
+-- the weight of line k of window i; d stands for a slot that is not there
+abbrev pub weight : {W : Type 0} → Set W → W → ℕ → ℕ → W
+weight s d i k = getD (s .weights) (i * s .layout .windowSize + k) d
+
+-- a set as a store holds it: integer weights, and the precision that they all have
+pub record Stored : Type 0 where
+  pub set : Set ℤ
+  pub precision : ℕ
+
+abbrev pub storedOf : Set ℤ → ℕ → Stored
+storedOf set precision = record { set = set; precision = precision }
+
+-- the total of window i's weights in use, and how far it is from 2^precision, which stands for 1
+abbrev pub totalOf : Stored → ℕ → ℤ
+totalOf s i = sum (weight (s .set) (pos 0) i) (size (s .set .layout) i)
+
+abbrev pub distanceOf : Stored → ℕ → ℕ
+distanceOf s i = distance (totalOf s i) (pos (2 ^ s .precision))

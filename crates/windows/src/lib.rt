@@ -1,12 +1,17 @@
-// `windows`: the two numberings of lines, a window of camera lines, and the one judge of whether sides and windows fit their lists. Normalisers, passes
-// and the sheet writer ask it; `badSides` is No. 1 of document 01, `badSet` No. 10 as far as they share it.
+// `windows`: the two numberings of lines, a window of camera lines, the stores of integer weights, and the one judge of whether sides, windows and precision fit.
+// Normalisers, passes and the sheet writer ask it; `badSides` is No. 1 of document 01, `badSet` and `badStored` No. 10 as far as they share it.
+mod counts;
+mod precisions;
+
+use counts::counts_misfit;
+pub use counts::fills;
+use counts::some_misfits;
+pub use precisions::precision_fits;
 ghost use mathlib.Core.Path.{_≡_};
 ghost use mathlib.Core.Bool.{not};
-ghost use Prim.Native.Nat.{_*_};
-ghost use lib.Dec.{eqb};
-ghost use lib.ListN.{length};
-ghost use Rattle.lists.specs.Tab.{any};
-ghost use Rattle.windows.specs.Fit.{badSides, badCounts, badWindow, badAt, badSet};
+ghost use Rattle.lists.specs.Ranges.{badSides};
+ghost use Rattle.windows.specs.Set.{layoutOf};
+ghost use Rattle.windows.specs.Fit.{badSet, badStored};
 
 // a line of the camera's frame, counted from 0
 pub struct CameraLine(pub u32);
@@ -20,6 +25,22 @@ pub struct Window {
     pub size: u32,
 }
 
+// a store of integer weights: a sum of weights has `bits` bits, a weight `limit` bits and a sign
+pub struct Store {
+    pub bits: u32,
+    pub limit: u32,
+}
+
+pub const STORE16: Store = Store {
+    bits: 22,
+    limit: 15,
+};
+
+pub const STORE32: Store = Store {
+    bits: 46,
+    limit: 31,
+};
+
 // Whether both sides are 1 to 8,192, for any counts of camera lines and windows.
 pub fn sides_fit(lines: u32, windows: usize) -> bool
     ensures answer { λ r. ⌜ r ≡ not (badSides lines windows) ⌝ }
@@ -28,56 +49,29 @@ pub fn sides_fit(lines: u32, windows: usize) -> bool
 }
 
 // Whether the window size, the slots and every window fit, for any numbers and lists.
-pub fn set_fits(lines: u32, window: u32, slots: usize, starts: &[u32], sizes: &[u32]) -> bool
-    ensures answer { λ r. ⌜ r ≡ not (badSet lines window slots (now (starts .entry)) (now (sizes .entry))) ⌝ }
+pub fn set_fits(lines: u32, window_size: u32, slots: usize, starts: &[u32], sizes: &[u32]) -> bool
+    ensures answer { λ r. ⌜ r ≡ not (badSet (layoutOf lines «window_size» (now (starts .entry)) (now (sizes .entry))) slots) ⌝ }
 {
-    if counts_misfit(window, slots, starts.len(), sizes.len()) {
+    if counts_misfit(window_size, slots, starts.len(), sizes.len()) {
         return false;
     }
-    !some_misfits(lines, window, starts, sizes)
+    !some_misfits(lines, window_size, starts, sizes)
 }
 
-// Whether a list has `each` slots for each of `rows`, for any numbers. A quotient stands for the product, which may be too large for a usize.
-pub fn fills(length: usize, rows: usize, each: u32) -> bool
-    ensures answer { λ r. ⌜ r ≡ eqb length (rows * each) ⌝ }
+// Whether a stored set fits, its precision too, for any numbers and lists.
+pub fn stored_fits(
+    store: Store,
+    lines: u32,
+    window_size: u32,
+    precision: u32,
+    slots: usize,
+    starts: &[u32],
+    sizes: &[u32],
+) -> bool
+    ensures answer { λ r. ⌜ r ≡ not (badStored (layoutOf lines «window_size» (now (starts .entry)) (now (sizes .entry))) store slots precision) ⌝ }
 {
-    if each == 0 {
-        return length == 0;
+    if !set_fits(lines, window_size, slots, starts, sizes) {
+        return false;
     }
-    let wide = each as usize;
-    (length / wide == rows) & (length % wide == 0)
-}
-
-// Whether the window size is out of its range or the counts differ.
-fn counts_misfit(window: u32, slots: usize, starts: usize, sizes: usize) -> bool
-    ensures answer { λ r. ⌜ r ≡ badCounts window slots starts sizes ⌝ }
-{
-    let full = fills(slots, starts, window);
-    (((window < 1) | (32769 < window)) | (starts != sizes)) | !full
-}
-
-// Whether some window of the lists is bad.
-fn some_misfits(lines: u32, window: u32, starts: &[u32], sizes: &[u32]) -> bool
-    requires { ⌜ length (now starts) ≡ length (now sizes) ⌝ }
-    ensures answer { λ r. ⌜ r ≡ any (length (now (starts .entry))) (badAt lines window (now (starts .entry)) (now (sizes .entry))) ⌝ }
-{
-    let mut bad = false;
-    let mut i: usize = 0;
-    while i < starts.len() {
-        let w = Window {
-            start: CameraLine(starts[i]),
-            size: sizes[i],
-        };
-        bad = bad | misfits(w, lines, window);
-        i += 1;
-    }
-    bad
-}
-
-// Whether one window is bad. Its end is taken in 64 bits, where it cannot wrap.
-fn misfits(w: Window, lines: u32, window: u32) -> bool
-    ensures answer { λ r. ⌜ r ≡ badWindow lines window (w .start .0) (w .size) ⌝ }
-{
-    let end = w.start.0 as u64 + w.size as u64;
-    ((w.size < 1) | (window < w.size)) | ((lines as u64) < end)
+    precision_fits(store, precision)
 }

@@ -7,7 +7,8 @@ use native.Mathlib.Omega.{arith}
 use Prim.Native.Nat.{ℕ, _*_}
 use native.Mathlib.Nat.{lt-of-le-of-lt, le-of-eq, le-trans}
 use lib.ListN.{length}
-use Rattle.windows.specs.Set.{setOf}
+use Rattle.windows.specs.Set.{layoutOf, setOf}
+use Rattle.windows.specs.Store.{store16}
 use Rattle.normalizer.proofs.Judged.{precision-small, ready, refused-written, done-written}
 
 judge-requires : tie.Need-judge-requires
@@ -22,16 +23,16 @@ enum-told c = search needs
 returns : tie.Need-returns
 returns c =
     let judged = c .before .before .judge .ensures in
-    (judged, refused-written 22 15 _ _ _ (sym judged ∙ c .enum-told .given .1))
+    (judged, refused-written store16 _ _ _ (sym judged ∙ c .enum-told .given .1))
 
-store16-requires : tie.Need-store16-requires
-store16-requires c κs =
+write16-requires : tie.Need-write16-requires
+write16-requires c κs =
     let at = c .before .before in
     let start = at .before .before .before .before .before .before in
-    let set = ready 22 15 (setOf (start .args .lines) (start .args .window) (start .args .weights .now) (start .args .starts .now) (start .args .sizes .now) 0) (length (start .args .out .now)) (at .answer .given .0 .0) (sym (at .before .before .judge .ensures) ∙ at .answer .given .1) in
-    let counts = set .fits .counts in (
-      lt-of-le-of-lt (le-of-eq (set .found)) (precision-small 22 15 (start .args .weights .now) (omega arith) (omega arith)),
-      (counts .wide .least, (counts .full ∙ ap (λ (n : ℕ). n * start .args .window) (counts .pairs), (le-trans (le-of-eq (counts .full)) (set .enough), set .inside))),
+    let set = ready store16 (setOf (layoutOf (start .args .lines) (start .args .window-size) (start .args .starts .now) (start .args .sizes .now)) (start .args .weights .now)) (length (start .args .out .now)) (at .answer .given .0 .0) (sym (at .before .before .judge .ensures) ∙ at .answer .given .1) in
+    let fits = set .fits in (
+      lt-of-le-of-lt (le-of-eq (set .found)) (precision-small store16 (start .args .weights .now) (omega arith) (omega arith)),
+      (fits .some-slot, (fits .full ∙ ap (λ (n : ℕ). n * start .args .window-size) (fits .pairs), (le-trans (le-of-eq (fits .full)) (set .enough), set .inside))),
     )
 
 same-length : tie.Need-same-length
@@ -41,7 +42,7 @@ returns-2 : tie.Need-returns-2
 returns-2 c =
     let at = c .before .before .before .before in
     let judged = at .before .before .judge .ensures in
-    (sym (at .answer .given .1) ∙ judged, done-written 22 15 _ _ _ _ (sym judged ∙ at .answer .given .1) (c .before .store16 .ensures))
+    (sym (at .answer .given .1) ∙ judged, done-written store16 _ _ _ _ (sym judged ∙ at .answer .given .1) (c .before .write16 .ensures))
 
 pub normalize16-spec : {M : Type 1} → statement M
 normalize16-spec =
@@ -51,6 +52,6 @@ normalize16-spec =
     enum-known-answer
     enum-told
     returns
-    store16-requires
+    write16-requires
     same-length
     returns-2)

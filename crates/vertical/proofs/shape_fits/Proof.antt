@@ -3,6 +3,7 @@ use mathlib.Core.Path.{_∙_, sym}
 use borrow.Author.Needs.{needs}
 use borrow.Author.Tests.{not-true, not-false}
 use Rattle.lists.proofs.BoolLaws.{asked-bad, asked-good}
+use Rattle.windows.specs.Set.{layoutOf}
 use Rattle.windows.specs.Fit.{badSet}
 use Rattle.vertical.proofs.shape_fits.Statement.{statement}
 use Rattle.vertical.proofs.shape_fits.Tie as tie
@@ -13,7 +14,7 @@ set-fits-requires c κs = search needs
 returns : tie.Need-returns
 returns c =
     let a = c .before .before .before .before .args in
-    rw (asked-bad (badSet (a .lines) (a .window) (a .slots) (a .starts .now) (a .sizes .now)) (c .before .set-fits .ensures) (c .if1 .taken))
+    rw (asked-bad (badSet (layoutOf (a .lines) (a .window-size) (a .starts .now) (a .sizes .now)) (a .slots)) (c .before .set-fits .ensures) (c .if1 .taken))
 
 fills-requires : tie.Need-fills-requires
 fills-requires c κs = search needs
@@ -22,7 +23,7 @@ returns-2 : tie.Need-returns-2
 returns-2 c =
     let a = c .before .before .before .before .before .before .args in
     rw (
-      asked-good (badSet (a .lines) (a .window) (a .slots) (a .starts .now) (a .sizes .now)) (c .before .before .before .set-fits .ensures) (c .before .before .if1 .left),
+      asked-good (badSet (layoutOf (a .lines) (a .window-size) (a .starts .now) (a .sizes .now)) (a .slots)) (c .before .before .before .set-fits .ensures) (c .before .before .if1 .left),
       sym (c .before .fills .ensures) ∙ not-true (c .before .fills .result) (c .if2 .taken),
     )
 
@@ -33,7 +34,7 @@ returns-3 : tie.Need-returns-3
 returns-3 c =
     let a = c .before .before .before .before .before .before .before .args in
     rw (
-      asked-good (badSet (a .lines) (a .window) (a .slots) (a .starts .now) (a .sizes .now)) (c .before .before .before .before .set-fits .ensures) (c .before .before .before .if1 .left),
+      asked-good (badSet (layoutOf (a .lines) (a .window-size) (a .starts .now) (a .sizes .now)) (a .slots)) (c .before .before .before .before .set-fits .ensures) (c .before .before .before .if1 .left),
       sym (c .before .before .fills .ensures) ∙ not-false (c .before .before .fills .result) (c .before .if2 .left),
     )
     (c .columns-fit .ensures)

@@ -1,7 +1,7 @@
 -- The sides are judged by `windows`, the row by two comparisons. Assumes nothing.
 use borrow.Author.Needs.{needs}
 use Rattle.lists.proofs.BoolLaws.{asked-bad, asked-good}
-use Rattle.windows.specs.Fit.{badSides}
+use Rattle.lists.specs.Ranges.{badSides}
 use Rattle.vertical.proofs.size_fits.Statement.{statement}
 use Rattle.vertical.proofs.size_fits.Tie as tie
 

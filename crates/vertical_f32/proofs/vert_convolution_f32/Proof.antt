@@ -8,7 +8,7 @@ use Rattle.vertical.proofs.Answers.{shaped}
 use Rattle.vertical.proofs.Turns.{ready}
 use Rattle.vertical.specs.F32.{badWeights, badSamples}
 use Rattle.vertical.specs.Frame.{sizeBad, shapeBad}
-use Rattle.windows.specs.Set.{Set, setOf}
+use Rattle.windows.specs.Set.{Set, layoutOf, setOf}
 use Rattle.vertical_f32.proofs.Flags.{weights-said, samples-said}
 use Rattle.vertical_f32.proofs.Judged.{bad-size, bad-shape, bad-weights, bad-samples, done}
 use Rattle.vertical_f32.proofs.vert_convolution_f32.Statement.{statement}
@@ -20,7 +20,7 @@ size-fits-requires c κs = search needs
 returns : tie.Need-returns
 returns c =
     let a = c .before .before .before .before .before .before .before .args in
-    let s : Set Float = setOf (a .lines) (a .window) (a .weights .now) (a .starts .now) (a .sizes .now) 0 in
+    let s : Set Float = setOf (layoutOf (a .lines) (a .window-size) (a .starts .now) (a .sizes .now)) (a .weights .now) in
     bad-size s (a .src .now) (a .row) (a .first) (a .count) (a .out .now) (asked-bad (sizeBad s (a .row)) (c .before .size-fits .ensures) (c .if1 .taken))
 
 shape-fits-requires : tie.Need-shape-fits-requires
@@ -29,7 +29,7 @@ shape-fits-requires c κs = search needs
 returns-2 : tie.Need-returns-2
 returns-2 c =
     let a = c .before .before .before .before .before .before .before .before .before .args in
-    let s : Set Float = setOf (a .lines) (a .window) (a .weights .now) (a .starts .now) (a .sizes .now) 0 in
+    let s : Set Float = setOf (layoutOf (a .lines) (a .window-size) (a .starts .now) (a .sizes .now)) (a .weights .now) in
     bad-shape s (a .src .now) (a .row) (a .first) (a .count) (a .out .now)
     (asked-good (sizeBad s (a .row)) (c .before .before .before .size-fits .ensures) (c .before .before .if1 .left))
     (asked-bad (shapeBad s (length (a .src .now)) (a .row) (a .first) (a .count) (length (a .out .now))) (c .before .shape-fits .ensures) (c .if2 .taken))
@@ -37,17 +37,17 @@ returns-2 c =
 weights-fit-requires : tie.Need-weights-fit-requires
 weights-fit-requires c κs =
     let a = c .before .before .before .before .before .before .before .before .before .args in
-    let s : Set Float = setOf (a .lines) (a .window) (a .weights .now) (a .starts .now) (a .sizes .now) 0 in
+    let s : Set Float = setOf (layoutOf (a .lines) (a .window-size) (a .starts .now) (a .sizes .now)) (a .weights .now) in
     let r = ready s (length (a .src .now)) (a .row) (a .first) (a .count) (length (a .out .now))
     (shaped s (length (a .src .now)) (a .row) (a .first) (a .count) (length (a .out .now))
     (asked-good (sizeBad s (a .row)) (c .before .before .before .size-fits .ensures) (c .before .before .if1 .left))
     (asked-good (shapeBad s (length (a .src .now)) (a .row) (a .first) (a .count) (length (a .out .now))) (c .before .shape-fits .ensures) (c .if2 .left))) in
-    ((r .pairs, r .full, r .many, r .wide), r .small)
+    ((r .set .pairs, r .set .full, r .set .few-windows, r .set .few-slots), r .set .small)
 
 returns-3 : tie.Need-returns-3
 returns-3 c =
     let a = c .before .before .before .before .before .before .before .before .before .before .before .args in
-    let s : Set Float = setOf (a .lines) (a .window) (a .weights .now) (a .starts .now) (a .sizes .now) 0 in
+    let s : Set Float = setOf (layoutOf (a .lines) (a .window-size) (a .starts .now) (a .sizes .now)) (a .weights .now) in
     bad-weights s (a .src .now) (a .row) (a .first) (a .count) (a .out .now)
     (asked-good (sizeBad s (a .row)) (c .before .before .before .before .before .size-fits .ensures) (c .before .before .before .before .if1 .left))
     (asked-good (shapeBad s (length (a .src .now)) (a .row) (a .first) (a .count) (length (a .out .now))) (c .before .before .before .shape-fits .ensures) (c .before .before .if2 .left))
@@ -56,17 +56,17 @@ returns-3 c =
 samples-fit-requires : tie.Need-samples-fit-requires
 samples-fit-requires c κs =
     let a = c .before .before .before .before .before .before .before .before .before .before .before .args in
-    let s : Set Float = setOf (a .lines) (a .window) (a .weights .now) (a .starts .now) (a .sizes .now) 0 in
+    let s : Set Float = setOf (layoutOf (a .lines) (a .window-size) (a .starts .now) (a .sizes .now)) (a .weights .now) in
     let r = ready s (length (a .src .now)) (a .row) (a .first) (a .count) (length (a .out .now))
     (shaped s (length (a .src .now)) (a .row) (a .first) (a .count) (length (a .out .now))
     (asked-good (sizeBad s (a .row)) (c .before .before .before .before .before .size-fits .ensures) (c .before .before .before .before .if1 .left))
     (asked-good (shapeBad s (length (a .src .now)) (a .row) (a .first) (a .count) (length (a .out .now))) (c .before .before .before .shape-fits .ensures) (c .before .before .if2 .left))) in
-    ((r .narrow, r .fit, r .pairs), (r .ends, r .inside))
+    ((r .narrow, r .fit, r .set .pairs), (r .set .ends, r .inside))
 
 returns-4 : tie.Need-returns-4
 returns-4 c =
     let a = c .before .before .before .before .before .before .before .before .before .before .before .before .before .args in
-    let s : Set Float = setOf (a .lines) (a .window) (a .weights .now) (a .starts .now) (a .sizes .now) 0 in
+    let s : Set Float = setOf (layoutOf (a .lines) (a .window-size) (a .starts .now) (a .sizes .now)) (a .weights .now) in
     bad-samples s (a .src .now) (a .row) (a .first) (a .count) (a .out .now)
     (asked-good (sizeBad s (a .row)) (c .before .before .before .before .before .before .before .size-fits .ensures) (c .before .before .before .before .before .before .if1 .left))
     (asked-good (shapeBad s (length (a .src .now)) (a .row) (a .first) (a .count) (length (a .out .now))) (c .before .before .before .before .before .shape-fits .ensures) (c .before .before .before .before .if2 .left))
@@ -76,7 +76,7 @@ returns-4 c =
 rows-requires : tie.Need-rows-requires
 rows-requires c κs =
     let a = c .before .before .before .before .before .before .before .before .before .before .before .before .before .before .args in
-    let s : Set Float = setOf (a .lines) (a .window) (a .weights .now) (a .starts .now) (a .sizes .now) 0 in (
+    let s : Set Float = setOf (layoutOf (a .lines) (a .window-size) (a .starts .now) (a .sizes .now)) (a .weights .now) in (
       ready s (length (a .src .now)) (a .row) (a .first) (a .count) (length (a .out .now))
           (shaped s (length (a .src .now)) (a .row) (a .first) (a .count) (length (a .out .now))
           (asked-good (sizeBad s (a .row)) (c .before .before .before .before .before .before .before .before .size-fits .ensures) (c .before .before .before .before .before .before .before .if1 .left))
@@ -93,7 +93,7 @@ same-length c = search needs
 returns-5 : tie.Need-returns-5
 returns-5 c =
     let a = c .before .before .before .before .before .before .before .before .before .before .before .before .before .before .before .before .before .args in
-    let s : Set Float = setOf (a .lines) (a .window) (a .weights .now) (a .starts .now) (a .sizes .now) 0 in
+    let s : Set Float = setOf (layoutOf (a .lines) (a .window-size) (a .starts .now) (a .sizes .now)) (a .weights .now) in
     let r = c .before .before .rows in
     done s (a .src .now) (a .row) (a .first) (a .count) (a .out .now)
     (asked-good (sizeBad s (a .row)) (c .before .before .before .before .before .before .before .before .before .before .before .size-fits .ensures) (c .before .before .before .before .before .before .before .before .before .before .if1 .left))

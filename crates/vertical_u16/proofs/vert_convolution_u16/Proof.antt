@@ -1,11 +1,11 @@
 -- Each way out is one lemma of `Judged`, at the set that the lists make; what the judge said gives `rows` its premises. Assumes nothing.
 use native.Mathlib.Omega.{arith}
-use lib.IntN.{ℤ}
 use lib.ListN.{length}
 use borrow.Author.Needs.{needs}
 use Rattle.lists.proofs.BoolLaws.{asked-bad, asked-good}
-use Rattle.windows.specs.Set.{Set, setOf}
-use Rattle.windows.proofs.Fits.{not-outside}
+use Rattle.lists.proofs.RangeLaws.{not-outside}
+use Rattle.windows.specs.Set.{layoutOf, setOf, Stored, storedOf}
+use Rattle.windows.specs.Store.{store32, badPrecision}
 use Rattle.vertical.specs.Frame.{sizeBad, shapeBad}
 use Rattle.vertical.proofs.Answers.{shaped}
 use Rattle.vertical.proofs.Turns.{ready}
@@ -19,8 +19,8 @@ size-fits-requires c κs = search needs
 returns : tie.Need-returns
 returns c =
     let a = c .before .before .before .before .before .before .args in
-    let s : Set ℤ = setOf (a .lines) (a .window) (a .weights .now) (a .starts .now) (a .sizes .now) (a .precision) in
-    bad-size s (a .src .now) (a .row) (a .first) (a .count) (a .out .now) (asked-bad (sizeBad s (a .row)) (c .before .size-fits .ensures) (c .if1 .taken))
+    let s : Stored = storedOf (setOf (layoutOf (a .lines) (a .window-size) (a .starts .now) (a .sizes .now)) (a .weights .now)) (a .precision) in
+    bad-size s (a .src .now) (a .row) (a .first) (a .count) (a .out .now) (asked-bad (sizeBad (s .set) (a .row)) (c .before .size-fits .ensures) (c .if1 .taken))
 
 shape-fits-requires : tie.Need-shape-fits-requires
 shape-fits-requires c κs = search needs
@@ -28,30 +28,33 @@ shape-fits-requires c κs = search needs
 returns-2 : tie.Need-returns-2
 returns-2 c =
     let a = c .before .before .before .before .before .before .before .before .args in
-    let s : Set ℤ = setOf (a .lines) (a .window) (a .weights .now) (a .starts .now) (a .sizes .now) (a .precision) in
+    let s : Stored = storedOf (setOf (layoutOf (a .lines) (a .window-size) (a .starts .now) (a .sizes .now)) (a .weights .now)) (a .precision) in
     bad-shape s (a .src .now) (a .row) (a .first) (a .count) (a .out .now)
-    (asked-good (sizeBad s (a .row)) (c .before .before .before .size-fits .ensures) (c .before .before .if1 .left))
-    (asked-bad (shapeBad s (length (a .src .now)) (a .row) (a .first) (a .count) (length (a .out .now))) (c .before .shape-fits .ensures) (c .if2 .taken))
+    (asked-good (sizeBad (s .set) (a .row)) (c .before .before .before .size-fits .ensures) (c .before .before .if1 .left))
+    (asked-bad (shapeBad (s .set) (length (a .src .now)) (a .row) (a .first) (a .count) (length (a .out .now))) (c .before .shape-fits .ensures) (c .if2 .taken))
+
+precision-fits-requires : tie.Need-precision-fits-requires
+precision-fits-requires c κs = search needs
 
 returns-3 : tie.Need-returns-3
 returns-3 c =
-    let a = c .before .before .before .before .before .before .before .before .before .args in
-    let s : Set ℤ = setOf (a .lines) (a .window) (a .weights .now) (a .starts .now) (a .sizes .now) (a .precision) in
+    let a = c .before .before .before .before .before .before .before .before .before .before .args in
+    let s : Stored = storedOf (setOf (layoutOf (a .lines) (a .window-size) (a .starts .now) (a .sizes .now)) (a .weights .now)) (a .precision) in
     bad-precision s (a .src .now) (a .row) (a .first) (a .count) (a .out .now)
-    (asked-good (sizeBad s (a .row)) (c .before .before .before .before .size-fits .ensures) (c .before .before .before .if1 .left))
-    (asked-good (shapeBad s (length (a .src .now)) (a .row) (a .first) (a .count) (length (a .out .now))) (c .before .before .shape-fits .ensures) (c .before .if2 .left))
-    (c .if3 .taken)
+    (asked-good (sizeBad (s .set) (a .row)) (c .before .before .before .before .before .size-fits .ensures) (c .before .before .before .before .if1 .left))
+    (asked-good (shapeBad (s .set) (length (a .src .now)) (a .row) (a .first) (a .count) (length (a .out .now))) (c .before .before .before .shape-fits .ensures) (c .before .before .if2 .left))
+    (asked-bad (badPrecision store32 (a .precision)) (c .before .precision-fits .ensures) (c .if3 .taken))
 
 rows-requires : tie.Need-rows-requires
 rows-requires c κs =
-    let a = c .before .before .before .before .before .before .before .before .before .before .args in
-    let s : Set ℤ = setOf (a .lines) (a .window) (a .weights .now) (a .starts .now) (a .sizes .now) (a .precision) in
-    let p = not-outside 4 45 (a .precision) (c .before .if3 .left) in (
+    let a = c .before .before .before .before .before .before .before .before .before .before .before .args in
+    let s : Stored = storedOf (setOf (layoutOf (a .lines) (a .window-size) (a .starts .now) (a .sizes .now)) (a .weights .now)) (a .precision) in
+    let p = not-outside 4 45 (a .precision) (asked-good (badPrecision store32 (a .precision)) (c .before .before .precision-fits .ensures) (c .before .if3 .left)) in (
       (omega (arith, p), p .most),
-      ready s (length (a .src .now)) (a .row) (a .first) (a .count) (length (a .out .now))
-          (shaped s (length (a .src .now)) (a .row) (a .first) (a .count) (length (a .out .now))
-          (asked-good (sizeBad s (a .row)) (c .before .before .before .before .before .size-fits .ensures) (c .before .before .before .before .if1 .left))
-          (asked-good (shapeBad s (length (a .src .now)) (a .row) (a .first) (a .count) (length (a .out .now))) (c .before .before .before .shape-fits .ensures) (c .before .before .if2 .left))),
+      ready (s .set) (length (a .src .now)) (a .row) (a .first) (a .count) (length (a .out .now))
+          (shaped (s .set) (length (a .src .now)) (a .row) (a .first) (a .count) (length (a .out .now))
+          (asked-good (sizeBad (s .set) (a .row)) (c .before .before .before .before .before .before .size-fits .ensures) (c .before .before .before .before .before .if1 .left))
+          (asked-good (shapeBad (s .set) (length (a .src .now)) (a .row) (a .first) (a .count) (length (a .out .now))) (c .before .before .before .before .shape-fits .ensures) (c .before .before .before .if2 .left))),
     )
 
 same-length : tie.Need-same-length
@@ -59,13 +62,13 @@ same-length c = search needs
 
 returns-4 : tie.Need-returns-4
 returns-4 c =
-    let a = c .before .before .before .before .before .before .before .before .before .before .before .before .before .args in
-    let s : Set ℤ = setOf (a .lines) (a .window) (a .weights .now) (a .starts .now) (a .sizes .now) (a .precision) in
+    let a = c .before .before .before .before .before .before .before .before .before .before .before .before .before .before .args in
+    let s : Stored = storedOf (setOf (layoutOf (a .lines) (a .window-size) (a .starts .now) (a .sizes .now)) (a .weights .now)) (a .precision) in
     let r = c .before .before .rows in
     done s (a .src .now) (a .row) (a .first) (a .count) (a .out .now)
-    (asked-good (sizeBad s (a .row)) (c .before .before .before .before .before .before .before .before .size-fits .ensures) (c .before .before .before .before .before .before .before .if1 .left))
-    (asked-good (shapeBad s (length (a .src .now)) (a .row) (a .first) (a .count) (length (a .out .now))) (c .before .before .before .before .before .before .shape-fits .ensures) (c .before .before .before .before .before .if2 .left))
-    (c .before .before .before .before .if3 .left)
+    (asked-good (sizeBad (s .set) (a .row)) (c .before .before .before .before .before .before .before .before .before .size-fits .ensures) (c .before .before .before .before .before .before .before .before .if1 .left))
+    (asked-good (shapeBad (s .set) (length (a .src .now)) (a .row) (a .first) (a .count) (length (a .out .now))) (c .before .before .before .before .before .before .before .shape-fits .ensures) (c .before .before .before .before .before .before .if2 .left))
+    (asked-good (badPrecision store32 (a .precision)) (c .before .before .before .before .before .precision-fits .ensures) (c .before .before .before .before .if3 .left))
     (r .last .1 .1 .1 .1 .1 .1 .1 .1 .1 .0)
     (r .kept .1 .1 .1 .1 .1 .1 .1 .1 .1 .0)
     (r .ensures)
@@ -78,6 +81,7 @@ vert-convolution-u16-spec =
     returns
     shape-fits-requires
     returns-2
+    precision-fits-requires
     returns-3
     rows-requires
     same-length

@@ -3,7 +3,7 @@ use mathlib.Core.Path.{sym, ap, _∙_}
 use mathlib.Core.Bool.{not}
 use lib.ListN.{length}
 use borrow.Author.Needs.{needs}
-use Rattle.windows.proofs.Fits.{counts-fit}
+use Rattle.windows.proofs.Fits.{pairs}
 use Rattle.windows.proofs.set_fits.Statement.{statement}
 use Rattle.windows.proofs.set_fits.Tie as tie
 
@@ -19,7 +19,7 @@ returns c = rw (sym (c .before .counts-misfit .ensures) ∙ c .if1 .taken)
 some-misfits-requires : tie.Need-some-misfits-requires
 some-misfits-requires c κs =
     let a = c .before .before .before .before .args in
-    counts-fit (a .window) (a .slots) (length (a .starts .now)) (length (a .sizes .now)) (sym (c .before .counts-misfit .ensures) ∙ c .if1 .left) .pairs
+    pairs (a .window-size) (a .slots) (length (a .starts .now)) (length (a .sizes .now)) (sym (c .before .counts-misfit .ensures) ∙ c .if1 .left)
 
 -- src/lib.rt:29:1
 returns-2 : tie.Need-returns-2

@@ -14,13 +14,13 @@ div-result : tie.Need-div-result
 div-result c = search needs
 
 mul-result : tie.Need-mul-result
-mul-result c = let l = window-of (c .args .k) (length (c .args .sizes .now)) (c .args .window) (c .pre .0) (c .pre .1) in search needs
+mul-result c = let l = window-of (c .args .k) (length (c .args .sizes .now)) (c .args .window-size) (c .pre .0) (c .pre .1) in search needs
 
 shared-slice-read-result : tie.Need-shared-slice-read-result
-shared-slice-read-result c = window-of (c .before .args .k) (length (c .before .args .sizes .now)) (c .before .args .window) (c .before .pre .0) (c .before .pre .1)
+shared-slice-read-result c = window-of (c .before .args .k) (length (c .before .args .sizes .now)) (c .before .args .window-size) (c .before .pre .0) (c .before .pre .1)
 
 cast-result : tie.Need-cast-result
-cast-result c = record { fits = omega (arith, c .shared-slice-known .given (c .before .args .k / c .before .args .window) .fits) }
+cast-result c = record { fits = omega (arith, c .shared-slice-known .given (c .before .args .k / c .before .args .window-size) .fits) }
 
 returns : tie.Need-returns
 returns c = search needs

@@ -7,6 +7,7 @@ use Rattle.normalizer.proofs.Casts.{held, in-type}
 use lib.Dec.{lit≤}
 use lib.Ieee.Casts.{toSigned-in}
 use mir.Facts.{toZ-ofZ}
+use Rattle.windows.specs.Store.{store16}
 use Rattle.normalizer.specs.Precision.{scaled, integer}
 use lib.Ieee.{toSigned}
 use mir.Syntax.{w64}
@@ -16,19 +17,19 @@ scaled-requires c κs = search needs
 
 truncating-f64-to-i64-requires : tie.Need-truncating-f64-to-i64-requires
 truncating-f64-to-i64-requires c κs =
-    let cut = held 15 (lit≤ tt) (scaled (c .before .before .args .p) (c .before .before .args .w)) (in-type (c .before .before .args .used) _ (c .before .before .pre .1) (c .before .if1 .taken)) in
+    let cut = held store16 (lit≤ tt) (scaled (c .before .before .args .p) (c .before .before .args .w)) (in-type (c .before .before .args .used) _ (c .before .before .pre .1) (c .before .if1 .taken)) in
     rw (c .scaled .ensures) (cut .low, cut .high)
 
 cast-result : tie.Need-cast-result
 cast-result c =
-    let cut = held 15 (lit≤ tt) (scaled (c .before .before .before .args .p) (c .before .before .before .args .w)) (in-type (c .before .before .before .args .used) _ (c .before .before .before .pre .1) (c .before .before .if1 .taken)) in
+    let cut = held store16 (lit≤ tt) (scaled (c .before .before .before .args .p) (c .before .before .before .args .w)) (in-type (c .before .before .before .args .used) _ (c .before .before .before .pre .1) (c .before .before .if1 .taken)) in
     let back = toZ-ofZ {w = w64} (record { sfits = c .truncating-f64-to-i64 .ok }) ∙ c .truncating-f64-to-i64 .ensures ∙ ap (toSigned 63) (c .before .scaled .ensures) ∙ cut .same in
     rw back (record { sfits = toSigned-in 15 (scaled (c .before .before .before .args .p) (c .before .before .before .args .w)) })
 
 returns : tie.Need-returns
 unfolding integer
 returns c =
-    let cut = held 15 (lit≤ tt) (scaled (c .before .before .before .args .p) (c .before .before .before .args .w)) (in-type (c .before .before .before .args .used) _ (c .before .before .before .pre .1) (c .before .before .if1 .taken)) in
+    let cut = held store16 (lit≤ tt) (scaled (c .before .before .before .args .p) (c .before .before .before .args .w)) (in-type (c .before .before .before .args .used) _ (c .before .before .before .pre .1) (c .before .before .if1 .taken)) in
     let back = toZ-ofZ {w = w64} (record { sfits = c .truncating-f64-to-i64 .ok }) ∙ c .truncating-f64-to-i64 .ensures ∙ ap (toSigned 63) (c .before .scaled .ensures) ∙ cut .same in
     rw (back, c .before .before .if1 .taken) (toZ-ofZ (record { sfits = toSigned-in 15 (scaled (c .before .before .before .args .p) (c .before .before .before .args .w)) }))
 

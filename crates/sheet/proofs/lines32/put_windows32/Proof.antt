@@ -25,7 +25,7 @@ abbrev μ-loop : tie.MeasureT-loop
 row : (c : tie.In-loop Inv-loop μ-loop) → c .before .loop .from + c .before .before .before .before .before .args .window ≤ length (c .before .before .before .before .before .args .weights .now)
 row c =
     let start = c .before .before .before .before .before in
-    rw (c .before .loop .inv .1, start .pre .whole) (row-end (c .before .loop .i) (length (start .args .starts .now)) (start .args .window) (c .loop-test .taken))
+    rw (c .before .loop .inv .1, start .pre .full) (row-end (c .before .loop .i) (length (start .args .starts .now)) (start .args .window) (c .loop-test .taken))
 
 loop-holds : tie.Need-loop-holds Inv-loop μ-loop
 loop-holds c = (search needs, sym (zero-mul _), laid-none _ _ (search needs) (search needs))

@@ -1,6 +1,9 @@
 -- `store32::put_sheet32` meets its contract: the head, then the windows' lines, are the sheet (`whole`). Assumes nothing.
+use lib.ListN.{length}
 use borrow.Author.Needs.{needs}
-use Rattle.windows.specs.Set.{setOf}
+use Rattle.windows.specs.Set.{layoutOf, setOf, storedOf}
+use Rattle.windows.specs.Store.{store32}
+use Rattle.windows.proofs.Fits.{fits-most}
 use Rattle.sheet.proofs.SheetLaws.{whole}
 use Rattle.sheet.proofs.store32.put_sheet32.Statement.{statement}
 use Rattle.sheet.proofs.store32.put_sheet32.Tie as tie
@@ -9,7 +12,10 @@ put-head-requires : tie.Need-put-head-requires
 put-head-requires c κs = search needs
 
 put-windows32-requires : tie.Need-put-windows32-requires
-put-windows32-requires c κs = c .before .before .before .before .before .before .before .before .pre
+put-windows32-requires c κs =
+    let start = c .before .before .before .before .before .before .before .before in
+    let a = start .args in
+    fits-most (layoutOf (a .lines) (a .window-size) (a .starts .now) (a .sizes .now)) (length (a .weights .now)) (start .pre)
 
 same-length : tie.Need-same-length
 same-length c = search needs
@@ -19,7 +25,7 @@ returns c =
     let a = c .before .before .before .before .before .before .before .before .before .before .before .args in
     let head = c .before .before .before .before .before .before .put-head .ensures in
     let put = c .before .before .put-windows32 .ensures in
-    whole (a .kind) 32 (setOf (a .lines) (a .window) (a .weights .now) (a .starts .now) (a .sizes .now) (a .precision)) (a .out .now) (search needs) (head .0) (head .1) (put .0) (put .1)
+    whole (a .kind) store32 (storedOf (setOf (layoutOf (a .lines) (a .window-size) (a .starts .now) (a .sizes .now)) (a .weights .now)) (a .precision)) (a .out .now) (search needs) (head .0) (head .1) (put .0) (put .1)
 
 pub put-sheet32-spec : {M : Type 1} → statement M
 put-sheet32-spec = tie.close (tie.spec put-head-requires put-windows32-requires same-length returns)

@@ -1,39 +1,48 @@
 -- `store32::write_sheet32` meets its contract: the four ways are those of `WriterLaws`; a set that passed both tests has a text far below 2^64 bytes.
 -- Assumes nothing.
-use mathlib.Core.Path.{_≡_, sym, _∙_}
-use mathlib.Core.Bool.{false}
+use mathlib.Core.Path.{_≡_, _∙_}
+use mathlib.Core.Bool.{Bool, false}
 use native.Mathlib.Omega.{arith}
-use lib.IntN.{ℤ}
 use lib.ListN.{length}
 use borrow.Author.Needs.{needs}
-use borrow.Author.Tests.{not-false, not-true}
+use Rattle.lists.specs.Ranges.{badSides}
+use Rattle.lists.proofs.BoolLaws.{or-left, asked-bad, asked-good}
 use Rattle.text.specs.Text.{reached}
-use Rattle.windows.specs.Fit.{badSides}
-use Rattle.windows.specs.Set.{Set, setOf, windows}
-use Rattle.sheet.specs.Answer.{badSheet}
+use Rattle.windows.specs.Set.{layoutOf, setOf, Stored, storedOf, windows}
+use Rattle.windows.specs.Store.{store32, badPrecision}
+use Rattle.windows.specs.Fit.{badSet, badStored, Fits}
+use Rattle.windows.proofs.Fits.{fits}
 use Rattle.sheet.specs.Text.{sheetText}
-use Rattle.sheet.proofs.JudgeLaws.{Passed, passed}
 use Rattle.sheet.proofs.SheetLaws.{sheet-counted}
 use Rattle.sheet.proofs.WriterLaws.{side-refused, misfit-refused, room-refused, all-written}
 use Rattle.sheet.proofs.store32.write_sheet32.Statement.{statement}
 use Rattle.sheet.proofs.store32.write_sheet32.Tie as tie
 
-abbrev asked : tie.Start → Set ℤ
-asked s = setOf (s .args .lines) (s .args .window) (s .args .weights .now) (s .args .starts .now) (s .args .sizes .now) (s .args .precision)
+abbrev asked : tie.Start → Stored
+asked s = storedOf (setOf (layoutOf (s .args .lines) (s .args .window-size) (s .args .starts .now) (s .args .sizes .now)) (s .args .weights .now)) (s .args .precision)
 
--- what the two tests say where they passed
-sides : (c : tie.Else1) → badSides (c .before .before .before .before .before .args .lines) (windows (asked (c .before .before .before .before .before))) ≡ false
-sides c = not-true (badSides (c .before .before .before .before .before .args .lines) (windows (asked (c .before .before .before .before .before)))) (sym (c .before .sides-fit .ensures) ∙ not-false (c .before .sides-fit .result) (c .if1 .left))
+abbrev bad : tie.Start → Bool
+bad s = badStored (asked s .set .layout) store32 (length (asked s .set .weights)) (asked s .precision)
 
-fits : (c : tie.Else2) → badSheet (c .before .before .before .before .before .before .before .args .lines) (c .before .before .before .before .before .before .before .args .window) (c .before .before .before .before .before .before .before .args .precision) 45 (length (c .before .before .before .before .before .before .before .args .weights .now)) (c .before .before .before .before .before .before .before .args .starts .now) (c .before .before .before .before .before .before .before .args .sizes .now) ≡ false
-fits c = sym (c .before .misfits .ensures) ∙ c .if2 .left
+-- where the two tests are called
+abbrev start : tie.Else2 → tie.Start
+start c = c .before .before .before .before .before .before .before
 
-ready : (c : tie.Else2) → Passed (asked (c .before .before .before .before .before .before .before))
-ready c = passed (asked (c .before .before .before .before .before .before .before)) 45 (sides (c .before .before)) (fits c)
+-- what they say where they passed
+sides : (c : tie.Else1) → badSides (c .before .before .before .before .before .args .lines) (windows (asked (c .before .before .before .before .before) .set .layout)) ≡ false
+sides c = asked-good (badSides (c .before .before .before .before .before .args .lines) (windows (asked (c .before .before .before .before .before) .set .layout))) (c .before .sides-fit .ensures) (c .if1 .left)
+
+fitting : (c : tie.Else2) → bad (start c) ≡ false
+fitting c = asked-good (bad (start c)) (c .before .stored-fits .ensures) (c .if2 .left)
+
+ready : (c : tie.Else2) → Fits (asked (start c) .set .layout) (length (asked (start c) .set .weights))
+ready c =
+    let s = asked (start c) in
+    fits (s .set .layout) (length (s .set .weights)) (sides (c .before .before)) (or-left (badSet (s .set .layout) (length (s .set .weights))) (badPrecision store32 (s .precision)) (fitting c))
 
 -- the run over one byte counts the whole text
-counted : (c : tie.Else2) → reached 0 (length (sheetText (c .before .before .before .before .before .before .before .args .kind) 32 (asked (c .before .before .before .before .before .before .before)))) ≡ length (sheetText (c .before .before .before .before .before .before .before .args .kind) 32 (asked (c .before .before .before .before .before .before .before)))
-counted c = sheet-counted (c .before .before .before .before .before .before .before .args .kind) 32 (asked (c .before .before .before .before .before .before .before)) (ready c)
+counted : (c : tie.Else2) → let text = sheetText (start c .args .kind) store32 (asked (start c)) in reached 0 (length text) ≡ length text
+counted c = sheet-counted (start c .args .kind) store32 (asked (start c)) (ready c)
 
 sides-fit-requires : tie.Need-sides-fit-requires
 sides-fit-requires c κs = search needs
@@ -41,31 +50,31 @@ sides-fit-requires c κs = search needs
 returns : tie.Need-returns
 returns c =
     let s = c .before .before .before .before .before in
-    side-refused (s .args .kind) 32 (asked s) (s .args .out .now)
-    (not-false (badSides (s .args .lines) (windows (asked s))) (sym (c .before .sides-fit .ensures) ∙ not-true (c .before .sides-fit .result) (c .if1 .taken)))
+    side-refused (s .args .kind) store32 (asked s) (s .args .out .now)
+    (asked-bad (badSides (s .args .lines) (windows (asked s .set .layout))) (c .before .sides-fit .ensures) (c .if1 .taken))
 
-misfits-requires : tie.Need-misfits-requires
-misfits-requires c κs = search needs
+stored-fits-requires : tie.Need-stored-fits-requires
+stored-fits-requires c κs = search needs
 
 returns-2 : tie.Need-returns-2
 returns-2 c =
     let s = c .before .before .before .before .before .before .before in
-    misfit-refused (s .args .kind) 32 (asked s) (s .args .out .now) (sides (c .before .before)) (sym (c .before .misfits .ensures) ∙ c .if2 .taken)
+    misfit-refused (s .args .kind) store32 (asked s) (s .args .out .now) (sides (c .before .before)) (asked-bad (bad s) (c .before .stored-fits .ensures) (c .if2 .taken))
 
 slice-aggregate-put-sheet32 : tie.Need-slice-aggregate-put-sheet32
 slice-aggregate-put-sheet32 c = search needs
 
 put-sheet32-requires : tie.Need-put-sheet32-requires
-put-sheet32-requires c κs = ready (c .before) .readable
+put-sheet32-requires c κs = ready (c .before)
 
 returns-3 : tie.Need-returns-3
 returns-3 c =
     let at = c .before .before .before .before in
     let s = at .before .before .before .before .before .before .before in
-    room-refused (s .args .kind) 32 (asked s) (s .args .out .now) (sides (at .before .before)) (fits at) (omega (arith, c .if3 .taken, c .before .before .put-sheet32 .ensures .0, counted at))
+    room-refused (s .args .kind) store32 (asked s) (s .args .out .now) (sides (at .before .before)) (fitting at) (omega (arith, c .if3 .taken, c .before .before .put-sheet32 .ensures .0, counted at))
 
 put-sheet32-requires-2 : tie.Need-put-sheet32-requires-2
-put-sheet32-requires-2 c κs = ready (c .before .before .before .before .before) .readable
+put-sheet32-requires-2 c κs = ready (c .before .before .before .before .before)
 
 same-length : tie.Need-same-length
 same-length c = search needs
@@ -75,7 +84,7 @@ returns-4 c =
     let at = c .before .before .before .before .before .before .before .before in
     let s = at .before .before .before .before .before .before .before in
     let length-is = c .before .before .before .before .before .before .put-sheet32 .ensures .0 ∙ counted at in
-    all-written (s .args .kind) 32 (asked s) (s .args .out .now) (sides (at .before .before)) (fits at) (omega (arith, c .before .before .before .before .if3 .left, length-is)) length-is
+    all-written (s .args .kind) store32 (asked s) (s .args .out .now) (sides (at .before .before)) (fitting at) (omega (arith, c .before .before .before .before .if3 .left, length-is)) length-is
     (c .before .before .put-sheet322 .ensures .1)
 
 pub write-sheet32-spec : {M : Type 1} → statement M
@@ -84,7 +93,7 @@ write-sheet32-spec =
     (tie.spec
     sides-fit-requires
     returns
-    misfits-requires
+    stored-fits-requires
     returns-2
     slice-aggregate-put-sheet32
     put-sheet32-requires

@@ -1,6 +1,6 @@
--- `store32`: after k turns the first k slots are written. Assumes nothing.
-use Rattle.normalizer.proofs.store.store32.Statement.{statement}
-use Rattle.normalizer.proofs.store.store32.Tie as tie
+-- `write32`: after k turns the first k slots are written. Assumes nothing.
+use Rattle.normalizer.proofs.store.write32.Statement.{statement}
+use Rattle.normalizer.proofs.store.write32.Tie as tie
 use borrow.Author.Needs.{needs}
 use native.Mathlib.Omega.{arith}
 use mathlib.Core.Path.{_≡_, ap, _∙_}
@@ -8,7 +8,7 @@ use Prim.Native.Nat.{_≤_, _-_}
 use lib.ListN.{length, getD}
 use Rattle.lists.proofs.TabLaws.{Written, written-none, written-more}
 use Rattle.lists.proofs.AnyLaws.{any-none}
-use Rattle.windows.specs.Set.{setOf}
+use Rattle.windows.specs.Store.{store32}
 use Rattle.normalizer.specs.Answer.{leaves, slotAt}
 use mathlib.Core.Bool.{Bool, cond}
 use lib.IntN.{pos}
@@ -17,10 +17,10 @@ use mir.Facts.{toZ-ofZ}
 use Rattle.normalizer.specs.Precision.{integer}
 
 abbrev Inv-loop : tie.InvT-loop
-Inv-loop p window weights sizes out₀ k₀ out k = (k ≤ length weights) × Written k (slotAt 31 p (setOf 0 window weights sizes sizes 0)) out₀ out
+Inv-loop p windowSize weights sizes out₀ k₀ out k = (k ≤ length weights) × Written k (slotAt store32 p windowSize weights sizes) out₀ out
 
 abbrev μ-loop : tie.MeasureT-loop
-μ-loop p window weights sizes out₀ k₀ out k = length weights - k
+μ-loop p windowSize weights sizes out₀ k₀ out k = length weights - k
 
 loop-holds : tie.Need-loop-holds Inv-loop μ-loop
 loop-holds c = (omega arith, written-none)
@@ -37,7 +37,7 @@ in-use-requires c κs = (c .before .before .before .before .before .pre .1 .0, o
 slot32-requires : tie.Need-slot32-requires Inv-loop μ-loop
 slot32-requires c κs =
     let start = c .before .before .before .before .before .before in
-    let stays = any-none (leaves 31 (start .args .p) (start .args .window) (start .args .weights .now) (start .args .sizes .now)) (length (start .args .weights .now)) (start .pre .1 .1 .1 .1) (c .before .before .before .loop .k) (omega arith) in
+    let stays = any-none (leaves store32 (start .args .p) (start .args .window-size) (start .args .weights .now) (start .args .sizes .now)) (length (start .args .weights .now)) (start .pre .1 .1 .1 .1) (c .before .before .before .loop .k) (omega arith) in
     (start .pre .0, rw (c .in-use .ensures) stays)
 
 mul-t12 : tie.Need-mul-t12 Inv-loop μ-loop
@@ -56,7 +56,7 @@ loop-again : tie.Need-loop-again Inv-loop μ-loop
 loop-again c =
     let start = c .before .before .before .before .before .before .before in
     let at = c .before .before .before .before in
-    let value = toZ-ofZ (record { sfits = c .slot32 .ok }) ∙ c .slot32 .ensures ∙ ap (λ (used : Bool). cond used (integer 31 (start .args .p) (getD (start .args .weights .now) (at .loop .k) nan)) (pos 0)) (c .before .in-use .ensures) in
+    let value = toZ-ofZ (record { sfits = c .slot32 .ok }) ∙ c .slot32 .ensures ∙ ap (λ (used : Bool). cond used (integer store32 (start .args .p) (getD (start .args .weights .now) (at .loop .k) nan)) (pos 0)) (c .before .in-use .ensures) in
     (omega arith, written-more (at .loop .inv .1) (omega (arith, start .pre .1 .1 .1 .0)) value)
 
 same-length : tie.Need-same-length Inv-loop μ-loop
@@ -67,8 +67,8 @@ returns c =
     let all : c .before .loop .k ≡ length (c .before .before .before .before .args .weights .now) = omega arith in
     rw (← all) (c .before .loop .inv .1 .is)
 
-pub store32-spec : {M : Type 1} → statement M
-store32-spec =
+pub write32-spec : {M : Type 1} → statement M
+write32-spec =
     tie.close
     (tie.spec
     Inv-loop

@@ -1,6 +1,6 @@
--- `bad_precision`: after k turns `bad` says whether one of the first k slots holds a weight in use that leaves its type. Assumes nothing.
-use Rattle.normalizer.proofs.judge.bad_precision.Statement.{statement}
-use Rattle.normalizer.proofs.judge.bad_precision.Tie as tie
+-- `unstorable`: after k turns `bad` says whether one of the first k slots holds a weight in use that leaves its type. Assumes nothing.
+use Rattle.normalizer.proofs.judge.unstorable.Statement.{statement}
+use Rattle.normalizer.proofs.judge.unstorable.Tie as tie
 use borrow.Author.Needs.{needs}
 use native.Mathlib.Omega.{arith}
 use mathlib.Core.Path.{_≡_, refl}
@@ -11,10 +11,10 @@ use Rattle.lists.specs.Tab.{any}
 use Rattle.normalizer.specs.Answer.{leaves}
 
 abbrev Inv-loop : tie.InvT-loop
-Inv-loop limit p window weights sizes bad₀ k₀ bad k = (k ≤ length weights) × (bad ≡ any k (leaves limit p window weights sizes))
+Inv-loop store p windowSize weights sizes bad₀ k₀ bad k = (k ≤ length weights) × (bad ≡ any k (leaves store p windowSize weights sizes))
 
 abbrev μ-loop : tie.MeasureT-loop
-μ-loop limit p window weights sizes bad₀ k₀ bad k = length weights - k
+μ-loop store p windowSize weights sizes bad₀ k₀ bad k = length weights - k
 
 loop-holds : tie.Need-loop-holds Inv-loop μ-loop
 loop-holds c = (omega arith, refl)
@@ -48,8 +48,8 @@ returns c =
     let all : c .before .loop .k ≡ length (c .before .before .before .before .args .weights .now) = omega arith in
     rw (c .before .loop .inv .1, all) refl
 
-pub bad-precision-spec : {M : Type 1} → statement M
-bad-precision-spec =
+pub unstorable-spec : {M : Type 1} → statement M
+unstorable-spec =
     tie.close
     (tie.spec
     Inv-loop

@@ -1,20 +1,21 @@
 -- After i turns `bad` says whether one of the first i windows is bad; a turn more is one step of `any`. Assumes nothing.
-use Rattle.windows.proofs.some_misfits.Statement.{statement}
-use Rattle.windows.proofs.some_misfits.Tie as tie
+use Rattle.windows.proofs.counts.some_misfits.Statement.{statement}
+use Rattle.windows.proofs.counts.some_misfits.Tie as tie
 use Prim.Native.Nat.{_-_, _≤_}
 use mathlib.Core.Path.{_≡_, refl}
 use lib.ListN.{length}
 use Rattle.lists.specs.Tab.{any}
+use Rattle.windows.specs.Set.{layoutOf}
 use Rattle.windows.specs.Fit.{badAt}
 use native.Mathlib.Numerals.{add-one}
 use borrow.Author.Needs.{needs}
 use native.Mathlib.Omega.{arith}
 
 abbrev Inv-loop : tie.InvT-loop
-Inv-loop lines window starts sizes bad₀ i₀ bad i = (i ≤ length starts) × (bad ≡ any i (badAt lines window starts sizes))
+Inv-loop lines windowSize starts sizes bad₀ i₀ bad i = (i ≤ length starts) × (bad ≡ any i (badAt (layoutOf lines windowSize starts sizes)))
 
 abbrev μ-loop : tie.MeasureT-loop
-μ-loop lines window starts sizes bad₀ i₀ bad i = length starts - i
+μ-loop lines windowSize starts sizes bad₀ i₀ bad i = length starts - i
 
 -- src/lib.rt:59:5
 loop-holds : tie.Need-loop-holds Inv-loop μ-loop

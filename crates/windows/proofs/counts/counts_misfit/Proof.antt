@@ -1,7 +1,7 @@
 -- The tests are those of the definition, in its order; the product is judged by `fills`. Assumes nothing.
 use borrow.Author.Needs.{needs}
-use Rattle.windows.proofs.counts_misfit.Statement.{statement}
-use Rattle.windows.proofs.counts_misfit.Tie as tie
+use Rattle.windows.proofs.counts.counts_misfit.Statement.{statement}
+use Rattle.windows.proofs.counts.counts_misfit.Tie as tie
 
 -- src/lib.rt
 fills-requires : tie.Need-fills-requires
