@@ -1,4 +1,5 @@
-"""Document 01 cut into sentences, table rows and list items, each with a number; it is not in this repository."""
+"""Document 01 or 02 cut into sentences, table rows and list items, each with a number; they are not in this repository. A section of 01 has a heading, one of 02 opens with
+`**W-2xx. Name.**`."""
 import hashlib
 import re
 
@@ -47,6 +48,11 @@ class Paper:
             if line.startswith("## "):
                 self.title, self.count, self.items = line[3:].strip(), 0, 0
                 self.titles.append(self.title)
+        elif line.startswith("**W-"):
+            self.end()
+            self.title, first = re.match(r"\*\*(W-\d+\. .*?)\.?\*\* ?(.*)", line).groups()
+            self.count, self.items, self.held = 0, 0, [first]
+            self.titles.append(self.title)
         elif item:
             self.end()
             self.items += 1
@@ -70,20 +76,21 @@ class Paper:
 
 
 def problems(path, rules):
-    """Sentences without a rule, rules without a sentence, sections whose words have changed."""
+    """Sentences without a rule, rules without a sentence, sections whose words have changed. Of document 02 only requests that have landed, that is have a section, are asked for."""
     paper = Paper(path, rules.sections)
+    second = any(title.startswith("W-") for title in paper.titles)
     ours = {re.sub(r"[a-z]$", "", r.id) for r in rules.all()}
     theirs = {ident for _, ident, _ in paper.units}
-    ask = [s for s in rules.sections if s.mark != "-"]
+    ask = [s for s in rules.sections if s.mark != "-" and s.title.startswith("W-") == second]
     for title in paper.titles:
-        if title not in paper.words:
+        if title not in paper.words and not second:
             yield "section without a word in rules.txt: " + title
     for title, ident, text in paper.units:
-        if ident not in ours:
+        if ident not in ours and not (second and title not in paper.words):
             yield "no rule for %s: %s" % (ident, text.split("\n")[0][:100])
     for s in ask:
         for r in s.rules:
             if re.sub(r"[a-z]$", "", r.id) not in theirs:
-                yield "no such sentence in document 01: " + r.id
+                yield "no such sentence in the paper: " + r.id
         if s.title in paper.titles and paper.mark(s.title) != s.mark:
             yield "the words of %s have changed (%s, was %s): read its rules again" % (s.title, paper.mark(s.title), s.mark)
