@@ -1,4 +1,5 @@
 """The way back, from the tree to the rules, and what no rule reaches."""
+import os
 import re
 
 import contracts
@@ -26,6 +27,9 @@ class Back:
         self.the_edits()
         house = tree.read(links.root, "docs", "ARCHITECTURE.md")
         self.problems += ["docs/ARCHITECTURE.md does not name the crate " + c for c in self.tree.crates if "`%s`" % c not in house]
+        for path in re.findall(r"`((?:crates|include|rust|tests)/[^`\s]+\.\w+)`", house):
+            if not os.path.exists(os.path.join(links.root, path)):
+                self.problems.append("docs/ARCHITECTURE.md names the file %s, which is not there" % path)
 
     def functions(self):
         c = self.links.contracts
