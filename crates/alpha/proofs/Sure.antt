@@ -14,6 +14,8 @@ use Rattle.alpha.proofs.u8x4.divide_alpha.Kinds as divide-alpha
 use Rattle.alpha.proofs.u8x4.divide_alpha.Reads as divide-alpha-reads
 use Rattle.alpha.proofs.u8x4.divide_alpha_inplace.Kinds as divide-alpha-inplace
 use Rattle.alpha.proofs.u8x4.divide_alpha_inplace.Reads as divide-alpha-inplace-reads
+use Rattle.alpha.proofs.Applied.number.Kinds as number
+use Rattle.alpha.proofs.Applied.number.Reads as number-reads
 
 pub mul-div-255-decides : DecidesResult mul-div-255.ps mul-div-255.r mul-div-255-reads.Post
 mul-div-255-decides κs a x y s t p q = p ∙ sym q
@@ -34,3 +36,6 @@ multiply-alpha-inplace-decides κs a x y s t p q = (p .0 ∙ sym (q .0), p .1 �
 
 pub divide-alpha-inplace-decides : Decides divide-alpha-inplace.ps divide-alpha-inplace.r divide-alpha-inplace-reads.Post (λ κs s t. now (s .0) ≡ now (t .0))
 divide-alpha-inplace-decides κs a x y s t p q = (p .0 ∙ sym (q .0), p .1 ∙ sym (q .1))
+
+pub number-decides : DecidesResult number.ps number.r number-reads.Post
+number-decides κs a x y s t p q = p ∙ sym q

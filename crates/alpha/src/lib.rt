@@ -1,5 +1,6 @@
 // `alpha`: a colour `multiplied` and `divided` by alpha, 8 bits, and lists of four-component pixels (three colours, then alpha) whose
 // colours are multiplied or divided by their own alpha, into another list or in place. The Rust's alpha/common.rs and alpha/u8x4/native.rs.
+mod answer;
 mod common;
 mod divide;
 mod multiply;

@@ -1,5 +1,6 @@
 // `coefficients`: weight sets. `build` judges a `Request` (No. 1 to 8) and writes for each display line the window of camera lines that it is made of:
 // the window's start, its size and its weights, in `window` slots a line. Operation by operation as `precompute_coefficients` of the Rust.
+mod answer;
 mod lines;
 mod planning;
 mod ranges;

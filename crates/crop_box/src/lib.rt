@@ -1,5 +1,6 @@
 // `crop_box`: which part of the camera image is shown. `crop` judges a `CropBox` against the image's sides (No. 1 to 5);
 // `fit_src_into_dst_size` gives the box that has the display's ratio of sides, placed by a `Centring`.
+mod answer;
 mod checks;
 mod fitting;
 mod ratios;

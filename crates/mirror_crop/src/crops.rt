@@ -2,8 +2,6 @@
 ghost use mathlib.Core.Path.{_≡_};
 ghost use Rattle.codes.specs.Codes.{filterNumber, filterWeight, fitNumber, fitBox};
 ghost use Rattle.crop_box.specs.Crop.{cropOf, numberOf};
-use crate::answers::crop_number;
-use crate::answers::fit_number;
 use crate::answers::fitted_box;
 use codes::centring_named;
 use codes::filter_named;
@@ -35,7 +33,7 @@ pub extern "C" fn mirror_crop(
 ) -> u32
     ensures answer { λ r. ⌜ r ≡ numberOf (cropOf «image_width» «image_height» (record { left = left; top = top; width = width; height = height })) ⌝ }
 {
-    crop_number(crop_box::crop(
+    crop_box::crop(
         image_width,
         image_height,
         CropBox {
@@ -44,7 +42,7 @@ pub extern "C" fn mirror_crop(
             width,
             height,
         },
-    ))
+    ).number()
 }
 
 // The box that has the display's ratio of sides, in the four numbers.
@@ -87,5 +85,5 @@ pub extern "C" fn mirror_fit(
     *top = b.top;
     *width = b.width;
     *height = b.height;
-    fit_number(answer)
+    answer.number()
 }

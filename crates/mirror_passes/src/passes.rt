@@ -5,7 +5,6 @@ ghost use Rattle.windows.specs.Set.{layoutOf, setOf, storedOf};
 ghost use Rattle.vertical.specs.Passed.{numberOf};
 ghost use Rattle.vertical.specs.F32.{passed32, written32};
 ghost use Rattle.vertical.specs.U16.{passed16, written16};
-use crate::answers::pass_number;
 
 // The value of every window at every column of the range, u16 samples: 0, No. 1 or No. 10.
 #[no_mangle]
@@ -25,7 +24,7 @@ pub extern "C" fn mirror_vertical_u16(
     ensures answer { λ r. ⌜ r ≡ numberOf (passed16 (storedOf (setOf (layoutOf lines window (now (starts .entry)) (now (sizes .entry))) (now (weights .entry))) precision) (now (src .entry)) row first count (length (now (out .entry)))) ⌝ }
     ensures written { λ _. ⌜ now (out .exit) ≡ written16 (storedOf (setOf (layoutOf lines window (now (starts .entry)) (now (sizes .entry))) (now (weights .entry))) precision) (now (src .entry)) row first count (now (out .entry)) ⌝ }
 {
-    pass_number(vertical_u16::vert_convolution_u16(
+    vertical_u16::vert_convolution_u16(
         src,
         lines,
         row,
@@ -37,7 +36,7 @@ pub extern "C" fn mirror_vertical_u16(
         window,
         precision,
         out,
-    ))
+    ).number()
 }
 
 // The same of f32 samples, with weights as doubles: 0, No. 1, 10 or 12.
@@ -57,7 +56,7 @@ pub extern "C" fn mirror_vertical_f32(
     ensures answer { λ r. ⌜ r ≡ numberOf (passed32 (setOf (layoutOf lines window (now (starts .entry)) (now (sizes .entry))) (now (weights .entry))) (now (src .entry)) row first count (length (now (out .entry)))) ⌝ }
     ensures written { λ _. ⌜ now (out .exit) ≡ written32 (setOf (layoutOf lines window (now (starts .entry)) (now (sizes .entry))) (now (weights .entry))) (now (src .entry)) row first count (now (out .entry)) ⌝ }
 {
-    pass_number(vertical_f32::vert_convolution_f32(
+    vertical_f32::vert_convolution_f32(
         src,
         lines,
         row,
@@ -68,5 +67,5 @@ pub extern "C" fn mirror_vertical_f32(
         sizes,
         window,
         out,
-    ))
+    ).number()
 }

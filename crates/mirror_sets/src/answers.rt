@@ -1,17 +1,7 @@
-// Document 01's number of an answer, and the numbers beside it.
+// The window size of a built set and the line of No. 8, 0 in every other answer.
 ghost use mathlib.Core.Path.{_≡_};
-ghost use Rattle.coefficients.specs.Answer.{numberOf as numberOfBuilt, lineOf, windowOf};
+ghost use Rattle.coefficients.specs.Answer.{lineOf, windowOf};
 use coefficients::Built;
-
-pub(crate) fn built_number(answer: Built) -> u32
-    ensures answer { λ r. ⌜ r ≡ numberOfBuilt answer ⌝ }
-{
-    match answer {
-        Built::Done(_) => 0,
-        Built::Blank(_) => 8,
-        Built::Refused(refusal) => refusal::number(refusal),
-    }
-}
 
 // The window size of a built set.
 pub(crate) fn built_window(answer: Built) -> u32

@@ -6,7 +6,6 @@ ghost use Rattle.coefficients.specs.Answer.{numberOf, windowOf, lineOf};
 ghost use Rattle.coefficients.specs.Request.{builtOf, weightsOf, startsOf, sizesOf};
 ghost use Rattle.codes.specs.Codes.{badCode, noCodes, requestOf};
 use crate::answers::blank_line;
-use crate::answers::built_number;
 use crate::answers::built_window;
 use codes::axis_named;
 use codes::filter_named;
@@ -61,5 +60,5 @@ pub extern "C" fn mirror_weights(
     let answer = coefficients::build(request, weights, starts, sizes);
     *window = built_window(answer);
     *line = blank_line(answer);
-    built_number(answer)
+    answer.number()
 }

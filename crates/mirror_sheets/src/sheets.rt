@@ -9,16 +9,7 @@ ghost use Rattle.codes.specs.Codes.{badCode, noFilter, filterOf};
 use codes::filter_named;
 use sheet::Sheet;
 
-fn sheet_number(answer: Sheet) -> u32
-    ensures answer { λ r. ⌜ r ≡ numberOf answer ⌝ }
-{
-    match answer {
-        Sheet::Written(_) => 0,
-        Sheet::Refused(refusal) => refusal::number(refusal),
-    }
-}
-
-// The bytes of a written sheet.
+// The bytes of a written sheet, 0 on a refusal.
 fn sheet_length(answer: Sheet) -> u64
     ensures answer { λ r. ⌜ r ≡ lengthOf answer ⌝ }
 {
@@ -52,7 +43,7 @@ pub extern "C" fn mirror_sheet16(
     let kind = filter_named(filter);
     let answer = sheet::write_sheet16(kind, lines, window, precision, weights, starts, sizes, text);
     *written = sheet_length(answer);
-    sheet_number(answer)
+    answer.number()
 }
 
 // Of the 32-bit store.
@@ -79,5 +70,5 @@ pub extern "C" fn mirror_sheet32(
     let kind = filter_named(filter);
     let answer = sheet::write_sheet32(kind, lines, window, precision, weights, starts, sizes, text);
     *written = sheet_length(answer);
-    sheet_number(answer)
+    answer.number()
 }

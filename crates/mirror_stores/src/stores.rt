@@ -4,7 +4,6 @@ ghost use lib.ListN.{length};
 ghost use Rattle.windows.specs.Set.{layoutOf, setOf};
 ghost use Rattle.windows.specs.Store.{store16, store32};
 ghost use Rattle.normalizer.specs.Answer.{normalizedOf, writtenOf, numberOf, precisionIn};
-use crate::answers::normalized_number;
 use crate::answers::normalized_precision;
 
 // In the 16-bit store: 0, No. 1, 7, 9 or 10.
@@ -24,7 +23,7 @@ pub extern "C" fn mirror_normalize16(
 {
     let answer = normalizer::normalize16(lines, window, weights, starts, sizes, out);
     *precision = normalized_precision(answer);
-    normalized_number(answer)
+    answer.number()
 }
 
 // In the 32-bit store.
@@ -44,5 +43,5 @@ pub extern "C" fn mirror_normalize32(
 {
     let answer = normalizer::normalize32(lines, window, weights, starts, sizes, out);
     *precision = normalized_precision(answer);
-    normalized_number(answer)
+    answer.number()
 }

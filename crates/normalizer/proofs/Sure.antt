@@ -1,4 +1,4 @@
--- The contracts of both normalisers decide their answers and every slot of the list that they write. Assumes nothing.
+-- The contracts of both normalisers decide their answers and every slot of the list that they write, that of `number` its answer. Assumes nothing.
 use mathlib.Core.Path.{_≡_, _∙_, sym, ap}
 use Prim.Native.Nat.{ℕ}
 use denote.Ref.{now}
@@ -13,6 +13,8 @@ use Rattle.normalizer.proofs.normalize16.Kinds as normalize16
 use Rattle.normalizer.proofs.normalize16.Reads as normalize16-reads
 use Rattle.normalizer.proofs.normalize32.Kinds as normalize32
 use Rattle.normalizer.proofs.normalize32.Reads as normalize32-reads
+use Rattle.normalizer.proofs.Normalized.number.Kinds as number
+use Rattle.normalizer.proofs.Normalized.number.Reads as number-reads
 
 abbrev with16 : ℕ → Normalizer16
 with16 p = record { precision = p }
@@ -29,3 +31,6 @@ normalize16-decides κs a x y s t p q = (p .0 ∙ sym (q .0), p .1 ∙ sym (q .1
 
 pub normalize32-decides : Decides normalize32.ps normalize32.r normalize32-reads.Post (λ κs s t. now (s .1 .1 .1 .1 .1 .0) ≡ now (t .1 .1 .1 .1 .1 .0))
 normalize32-decides κs a x y s t p q = (p .0 ∙ sym (q .0), p .1 ∙ sym (q .1))
+
+pub number-decides : DecidesResult number.ps number.r number-reads.Post
+number-decides κs a x y s t p q = p ∙ sym q

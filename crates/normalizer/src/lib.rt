@@ -1,5 +1,6 @@
 // `normalizer`: weights as integers, in the 16-bit or the 32-bit store. A set of doubles gets one `precision`, found from its largest weight; each weight
 // in use becomes weight x 2^precision rounded half away from zero, the other slots 0. A set that does not fit is refused, and nothing is written.
+mod answer;
 mod judge;
 mod precision;
 mod store;

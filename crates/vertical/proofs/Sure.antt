@@ -1,13 +1,18 @@
--- The contracts of `size_fits` and `shape_fits` decide their answers. Assumes nothing.
+-- The contracts of `size_fits`, `shape_fits` and `number` decide their answers. Assumes nothing.
 use mathlib.Core.Path.{_∙_, sym}
 use Rattle.lists.proofs.Sure.{DecidesResult}
 use Rattle.vertical.proofs.size_fits.Kinds as size
 use Rattle.vertical.proofs.size_fits.Reads as size-reads
 use Rattle.vertical.proofs.shape_fits.Kinds as shape
 use Rattle.vertical.proofs.shape_fits.Reads as shape-reads
+use Rattle.vertical.proofs.Passed.number.Kinds as number
+use Rattle.vertical.proofs.Passed.number.Reads as number-reads
 
 pub size-fits-decides : DecidesResult size.ps size.r size-reads.Post
 size-fits-decides κs a x y s t p q = p ∙ sym q
 
 pub shape-fits-decides : DecidesResult shape.ps shape.r shape-reads.Post
 shape-fits-decides κs a x y s t p q = p ∙ sym q
+
+pub number-decides : DecidesResult number.ps number.r number-reads.Post
+number-decides κs a x y s t p q = p ∙ sym q

@@ -1,6 +1,8 @@
 // `vertical`: what the two vertical passes answer and write. The definitions that `vertical_u16` and `vertical_f32` are proved against, the judge of sizes and
 // shape that both ask (`badSize` is No. 1 of document 01, `badShape` the No. 10 that they share), and the promise that a range of columns gives those
 // columns of the whole frame.
+mod answer;
+
 use refusal::Refusal;
 use windows::fills;
 use windows::set_fits;

@@ -8,15 +8,15 @@ use Rattle.mirror_alpha.proofs.pixels.mirror_divide_u8x4_inplace.Tie as
 divide-alpha-inplace-requires : tie.Need-divide-alpha-inplace-requires
 divide-alpha-inplace-requires c κs = search needs
 
-applied-number-requires : tie.Need-applied-number-requires
-applied-number-requires c κs = search needs
+number-requires : tie.Need-number-requires
+number-requires c κs = search needs
 
 same-length : tie.Need-same-length
 same-length c = search needs
 
 returns : tie.Need-returns
-returns c = let call = c .before .before .before .divide-alpha-inplace .ensures in (c .applied-number .ensures ∙ ap numberOf (call .0), call .1)
+returns c = let call = c .before .before .before .divide-alpha-inplace .ensures in (c .number .ensures ∙ ap numberOf (call .0), call .1)
 
 pub mirror-divide-u8x4-inplace-spec : {M : Type 1} → statement M
 mirror-divide-u8x4-inplace-spec =
-    tie.close (tie.spec divide-alpha-inplace-requires applied-number-requires same-length returns)
+    tie.close (tie.spec divide-alpha-inplace-requires number-requires same-length returns)

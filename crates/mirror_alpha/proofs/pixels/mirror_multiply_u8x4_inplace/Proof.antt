@@ -8,16 +8,16 @@ use Rattle.mirror_alpha.proofs.pixels.mirror_multiply_u8x4_inplace.Tie 
 multiply-alpha-inplace-requires : tie.Need-multiply-alpha-inplace-requires
 multiply-alpha-inplace-requires c κs = search needs
 
-applied-number-requires : tie.Need-applied-number-requires
-applied-number-requires c κs = search needs
+number-requires : tie.Need-number-requires
+number-requires c κs = search needs
 
 same-length : tie.Need-same-length
 same-length c = search needs
 
 returns : tie.Need-returns
-returns c = let call = c .before .before .before .multiply-alpha-inplace .ensures in (c .applied-number .ensures ∙ ap numberOf (call .0), call .1)
+returns c = let call = c .before .before .before .multiply-alpha-inplace .ensures in (c .number .ensures ∙ ap numberOf (call .0), call .1)
 
 pub mirror-multiply-u8x4-inplace-spec : {M : Type 1} → statement M
 mirror-multiply-u8x4-inplace-spec =
     tie.close
-    (tie.spec multiply-alpha-inplace-requires applied-number-requires same-length returns)
+    (tie.spec multiply-alpha-inplace-requires number-requires same-length returns)

@@ -8,11 +8,11 @@ use Rattle.mirror_crop.proofs.crops.mirror_crop.Tie as tie
 crop-requires : tie.Need-crop-requires
 crop-requires c κs = search needs
 
-crop-number-requires : tie.Need-crop-number-requires
-crop-number-requires c κs = search needs
+number-requires : tie.Need-number-requires
+number-requires c κs = search needs
 
 returns : tie.Need-returns
-returns c = c .crop-number .ensures ∙ ap numberOf (c .before .crop .ensures)
+returns c = c .number .ensures ∙ ap numberOf (c .before .crop .ensures)
 
 pub mirror-crop-spec : {M : Type 1} → statement M
-mirror-crop-spec = tie.close (tie.spec crop-requires crop-number-requires returns)
+mirror-crop-spec = tie.close (tie.spec crop-requires number-requires returns)

@@ -21,8 +21,8 @@ fit-src-into-dst-size-requires c κs = search needs
 fitted-box-requires : tie.Need-fitted-box-requires
 fitted-box-requires c κs = search needs
 
-fit-number-requires : tie.Need-fit-number-requires
-fit-number-requires c κs = search needs
+number-requires : tie.Need-number-requires
+number-requires c κs = search needs
 
 returns-2 : tie.Need-returns-2
 unfolding fitNumber fitBox
@@ -30,7 +30,7 @@ returns-2 c =
     let fit = rw (c .before .before .before .centring-named .ensures) at (c .before .before .fit-src-into-dst-size .ensures) in
     let b = c .before .fitted-box .ensures ∙ ap boxOf fit in
     rw (le-ltb _ _ (c .before .before .before .before .if1 .left))
-    (c .fit-number .ensures ∙ ap numberOf fit, (ap (λ (x : CropBox). x .left) b, (ap (λ (x : CropBox). x .top) b, (ap (λ (x : CropBox). x .width) b, ap (λ (x : CropBox). x .height) b))))
+    (c .number .ensures ∙ ap numberOf fit, (ap (λ (x : CropBox). x .left) b, (ap (λ (x : CropBox). x .top) b, (ap (λ (x : CropBox). x .width) b, ap (λ (x : CropBox). x .height) b))))
 
 pub mirror-fit-spec : {M : Type 1} → statement M
 mirror-fit-spec =
@@ -40,5 +40,5 @@ mirror-fit-spec =
     centring-named-requires
     fit-src-into-dst-size-requires
     fitted-box-requires
-    fit-number-requires
+    number-requires
     returns-2)

@@ -24,8 +24,8 @@ built-window-requires c κs = search needs
 blank-line-requires : tie.Need-blank-line-requires
 blank-line-requires c κs = search needs
 
-built-number-requires : tie.Need-built-number-requires
-built-number-requires c κs = search needs
+number-requires : tie.Need-number-requires
+number-requires c κs = search needs
 
 same-length : tie.Need-same-length
 same-length c = search needs
@@ -41,7 +41,7 @@ returns-2 c =
     let named = c .before .before .before .before .before .before .before .before .before .before .before .before .before in
     let made = rw (named .before .axis-named .ensures, named .filter-named .ensures) at (c .before .before .before .before .before .before .before .before .before .build .ensures) in
     rw (named .before .before .if1 .left)
-    (c .built-number .ensures ∙ ap numberOf (made .0), (made .1 .0, (made .1 .1 .0, (made .1 .1 .1, (c .before .before .built-window .ensures ∙ ap windowOf (made .0), c .before .blank-line .ensures ∙ ap lineOf (made .0))))))
+    (c .number .ensures ∙ ap numberOf (made .0), (made .1 .0, (made .1 .1 .0, (made .1 .1 .1, (c .before .before .built-window .ensures ∙ ap windowOf (made .0), c .before .blank-line .ensures ∙ ap lineOf (made .0))))))
 
 pub mirror-weights-spec : {M : Type 1} → statement M
 mirror-weights-spec =
@@ -53,7 +53,7 @@ mirror-weights-spec =
     build-requires
     built-window-requires
     blank-line-requires
-    built-number-requires
+    number-requires
     same-length
     same-length-2
     same-length-3

@@ -18,8 +18,8 @@ write-sheet32-requires c κs = search needs
 sheet-length-requires : tie.Need-sheet-length-requires
 sheet-length-requires c κs = search needs
 
-sheet-number-requires : tie.Need-sheet-number-requires
-sheet-number-requires c κs = search needs
+number-requires : tie.Need-number-requires
+number-requires c κs = search needs
 
 same-length : tie.Need-same-length
 same-length c = search needs
@@ -30,7 +30,7 @@ returns-2 c =
     let named = called .before .before in
     let call = rw (named .filter-named .ensures) at (called .write-sheet32 .ensures) in
     rw (le-ltb _ _ (named .before .if1 .left))
-    (c .sheet-number .ensures ∙ ap numberOf (call .0), (call .1, c .before .sheet-length .ensures ∙ ap lengthOf (call .0)))
+    (c .number .ensures ∙ ap numberOf (call .0), (call .1, c .before .sheet-length .ensures ∙ ap lengthOf (call .0)))
 
 pub mirror-sheet32-spec : {M : Type 1} → statement M
 mirror-sheet32-spec =
@@ -40,6 +40,6 @@ mirror-sheet32-spec =
     filter-named-requires
     write-sheet32-requires
     sheet-length-requires
-    sheet-number-requires
+    number-requires
     same-length
     returns-2)

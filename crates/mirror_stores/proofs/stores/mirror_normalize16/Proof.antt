@@ -11,8 +11,8 @@ normalize16-requires c κs = search needs
 normalized-precision-requires : tie.Need-normalized-precision-requires
 normalized-precision-requires c κs = search needs
 
-normalized-number-requires : tie.Need-normalized-number-requires
-normalized-number-requires c κs = search needs
+number-requires : tie.Need-number-requires
+number-requires c κs = search needs
 
 same-length : tie.Need-same-length
 same-length c = search needs
@@ -20,7 +20,7 @@ same-length c = search needs
 returns : tie.Need-returns
 returns c =
     let call = c .before .before .before .normalize16 .ensures in
-    (c .normalized-number .ensures ∙ ap numberOf (call .0), (call .1, c .before .normalized-precision .ensures ∙ ap precisionIn (call .0)))
+    (c .number .ensures ∙ ap numberOf (call .0), (call .1, c .before .normalized-precision .ensures ∙ ap precisionIn (call .0)))
 
 pub mirror-normalize16-spec : {M : Type 1} → statement M
 mirror-normalize16-spec =
@@ -28,6 +28,6 @@ mirror-normalize16-spec =
     (tie.spec
     normalize16-requires
     normalized-precision-requires
-    normalized-number-requires
+    number-requires
     same-length
     returns)
