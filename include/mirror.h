@@ -7,6 +7,9 @@
  *
  * Numbers beside the answer (weight, left, top, width, height, window, line, precision, written) are always written, and are 0 on every
  * refusal, but for the line of No. 8.
+ *
+ * The contracts know one NaN. So of a NaN in a list of doubles or floats, "unchanged" promises that it stays a NaN, not that it keeps its
+ * sign and payload; the compiled code does not touch such a slot, which tests/c shows bit by bit.
  */
 #ifndef MIRROR_H
 #define MIRROR_H
@@ -52,7 +55,7 @@ uint64_t mirror_round(uint64_t x);   /* half away from zero */
 uint64_t mirror_widen(uint32_t x);   /* binary32 to binary64 */
 uint32_t mirror_narrow(uint64_t x);  /* binary64 to binary32, ties to even, infinity where too large */
 
-/* One filter's weight at the distance x. 0, 100. The pattern of a NaN weight is not promised. */
+/* One filter's weight at the distance x; 0 where x is infinite or a NaN. 0, 100. */
 uint32_t mirror_filter(uint32_t filter, double x, double *weight);
 
 /* Whether a crop box lies in the image. 0 to 5. */

@@ -26,8 +26,14 @@ enum { GUARD = 64, FILL = 0xa5 };
 
 #define CHECK(test) check(test, #test, __FILE__, __LINE__)
 
+/* A list of n doubles or floats filled with NaNs, signalling and quiet, of both signs, with payloads; and whether it still is, bit by bit. */
+#define FILL_NANS(list, n) fill_nans(list, n, sizeof(list)[0])
+#define STILL_NANS(list, n) still_nans(list, n, sizeof(list)[0])
+
 void check(int good, const char *what, const char *file, int line);
 int filled(const uint8_t *from, size_t bytes);
+void fill_nans(void *list, size_t n, size_t width);
+int still_nans(const void *list, size_t n, size_t width);
 double of_bits(uint64_t bits);
 uint64_t to_bits(double x);
 

@@ -66,6 +66,15 @@ static void check_f32(void)
     CHECK(F32(spoilt, 4, 2, 2, 0, 2, halves, twos, 2) == MIRROR_SAMPLE_OUTSIDE && UNCHANGED(out));
     CHECK(F32(frame, 4, 2, 2, 0, 2, broken, twos, 2) == MIRROR_SAMPLE_OUTSIDE && UNCHANGED(out));
     CHECK(F32(frame, 4, 2, 2, 0, 2, heavy, twos, 2) == MIRROR_SAMPLE_OUTSIDE && UNCHANGED(out));
+    /* a refused output keeps the bits of the NaNs in it; so does what lies past an output */
+    float many[9];
+    FILL_NANS(many, 9);
+#define NANS32(lines, weights, room) mirror_vertical_f32(frame, 4, lines, 2, 0, 2, weights, 2, nought, 1, twos, 1, 2, many, room)
+    CHECK(NANS32(0, halves, 9) == MIRROR_BAD_SIDE && NANS32(2, halves, 9) == MIRROR_DOES_NOT_FIT && STILL_NANS(many, 9));
+    CHECK(NANS32(2, broken, 2) == MIRROR_SAMPLE_OUTSIDE && STILL_NANS(many, 9));
+    CHECK(NANS32(2, halves, 2) == MIRROR_DONE && many[0] == 2 && many[1] == 3);
+    FILL_NANS(many, 2);
+    CHECK(STILL_NANS(many, 9));
 }
 
 void check_passes(void)

@@ -83,12 +83,30 @@ static void check_choices(void)
     CHECK(window == 3 && starts.at[0] == 2 && sizes.at[0] == 1 && weights.at[0] == 1 && KEPT_FROM(weights, 3));
 }
 
+/* Slots that are not written keep the bits of the NaNs in them: past those asked for, and all of them on a refusal. */
+static void check_nans(void)
+{
+    double weights[20];
+    uint32_t starts[2], sizes[2], window, line;
+    FILL_NANS(weights, 20);
+    CHECK(built(4, 0, 4, 2, MIRROR_BOX, weights, 5, starts, 2, sizes, 2, &window, &line) == MIRROR_TOO_FEW_SLOTS && STILL_NANS(weights, 20));
+    CHECK(built(4, NAN, 4, 2, MIRROR_BOX, weights, 20, starts, 2, sizes, 2, &window, &line) == MIRROR_NOT_FINITE && STILL_NANS(weights, 20));
+    CHECK(mirror_weights(4, 1, 0, 0, 4, 1, 2, 2, 0, 1, weights, 20, starts, 2, sizes, 2, &window, &line) == MIRROR_BAD_CODE && STILL_NANS(weights, 20));
+    CHECK(built(4, 0, 4, 2, MIRROR_BOX, weights, 20, starts, 2, sizes, 2, &window, &line) == MIRROR_DONE && window == 3 && weights[5] == 0);
+    FILL_NANS(weights, 6);
+    CHECK(STILL_NANS(weights, 20));
+    CHECK(built(1, 1 - 0x1p-53, 0x1p-53, 1, MIRROR_BOX, weights, 20, starts, 2, sizes, 2, &window, &line) == MIRROR_BLANK_WINDOW && to_bits(weights[2]) == 0);
+    FILL_NANS(weights, 3);
+    CHECK(STILL_NANS(weights, 20));
+}
+
 void check_weights(void)
 {
     check_example();
     check_blank();
     check_refusals();
     check_choices();
+    check_nans();
 }
 
 static const double third[] = {1.0 / 3, 1.0 / 3, 1.0 / 3}, one[] = {1}, large[] = {1e10}, none[] = {NAN};
