@@ -50,20 +50,22 @@ def constants(root, crate):
 def edits(root, crate, defs, fns):
     here, items = os.path.join(root, "crates", crate, "must-fail"), list(constants(root, crate))
     for name in sorted(os.listdir(here)) if os.path.isdir(here) else []:
-        lines = read(here, name).splitlines()
-        file = lines[0][len("file: "):]
-        text, place, problem, places = read(root, "crates", crate, file), None, None, set()
-        given = text
-        for line in lines[1:]:
-            if line.startswith("old: "):
+        first, place, problem, places = None, None, None, set()
+        for line in read(here, name).splitlines():
+            if line.startswith("file: "):
+                file = line[len("file: "):]
+                first, given = first or file, read(root, "crates", crate, file)
+                text = given
+            elif line.startswith("old: "):
                 old = line[5:]
                 if text.count(old) != 1:
                     problem = "its old text stands %d times in %s" % (text.count(old), file)
-                place = holder(crate, file, given.find(old) if old in given else text.find(old), defs, fns, items)
-                places.add(place)
+                at = holder(crate, file, given.find(old) if old in given else text.find(old), defs, fns, items)
+                place = at or place
+                places.add(at)
             elif line.startswith("new: "):
                 text = text.replace(old, line[5:], 1)
-        yield Edit(crate, name[:-5], file, place, problem, places - {None})
+        yield Edit(crate, name[:-5], first, place, problem, places - {None})
 
 
 def holder(crate, file, at, defs, fns, items):
