@@ -4,13 +4,18 @@
 usage: stored.py ORACLE TESTFLOAT FOLDER [group ..]        (no group: all of them)
 
 Writes FOLDER/GROUP.in and FOLDER/GROUP.out. TESTFLOAT is the file of TestFloat's cases (`n X floor ceil round narrow`,
-`w X widened`): their answers are stored, and the oracle has to give the same. The seed is fixed: the same lines every time.
+`w X widened`): their answers are stored, and the oracle has to give the same. What the oracle calls `bad` has the word and the
+reason of tests/reading. The seed is fixed: the same lines every time.
 """
+import os
 import random
 import subprocess
 import sys
 
 from generate import *
+
+sys.path.append(os.path.join(os.path.dirname(os.path.abspath(__file__)), "..", "reading"))
+import lines as reading  # noqa: E402
 
 SEED = 20261115
 
@@ -367,6 +372,7 @@ def main():
             if wrong:
                 sys.exit("the oracle differs from SoftFloat: %s" % wrong[:5])
             lines, stored = [q for q, _ in theirs] + lines, [a for _, a in theirs] + stored
+        stored = [reading.answer(q) if a == "bad" else a for q, a in zip(lines, stored)]
         for ending, texts in (("in", lines), ("out", stored)):
             with open("%s/%s.%s" % (folder, name, ending), "w", newline="\n") as f:
                 f.write("".join(t + "\n" for t in texts))

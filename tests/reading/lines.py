@@ -1,4 +1,4 @@
-"""The protocol (docs/PROTOCOL.md): a request line in, its answer out; `bad` for what is no request or past the program's buffers."""
+"""The protocol (docs/PROTOCOL.md): a request line in, its answer out; `bad`, the word and the reason for what is no request or past the program's buffers."""
 import re
 
 import frames
@@ -7,13 +7,13 @@ import weights
 
 
 class Bad(Exception):
-    pass
+    """Why a word is not of its kind; or its number, the request's own being 1, and why."""
 
 
-def number(least, most):
+def number(least, most, why):
     def read(word):
         if not re.fullmatch("-?[0-9]+" if least < 0 else "[0-9]+", word) or re.fullmatch("-0+", word) or len(word) > 4000 or not least <= int(word) <= most:
-            raise Bad
+            raise Bad(why)
         return int(word)
     return read
 
@@ -21,15 +21,15 @@ def number(least, most):
 def digits(n):
     def read(word):
         if not re.fullmatch("[0-9a-f]{%d}" % n, word):
-            raise Bad
+            raise Bad("not %d hexadecimal digits" % n)
         return int(word, 16)
     return read
 
 
-def one_of(*names):
+def one_of(why, *names):
     def read(word):
         if word not in names:
-            raise Bad
+            raise Bad(why)
         return word
     return read
 
@@ -39,11 +39,13 @@ def listed(item):
 
 
 def lent(most=131072, made=lambda v: v):
-    return lambda word: [made((7 * i + 3) % 251) for i in range(number(0, most)(word))]
+    return lambda word: [made((7 * i + 3) % 251) for i in range(number(0, most, "no length up to %d" % most)(word))]
 
 
-u8, u16, u32, i16, i32 = number(0, 255), number(0, 65535), number(0, 2**32 - 1), number(-(2**15), 2**15 - 1), number(-(2**31), 2**31 - 1)
-b32, b64, kind, flag = digits(8), digits(16), one_of(*weights.FILTERS), lambda word: int(one_of("0", "1")(word))
+u8, u16, u32 = number(0, 255, "not a u8"), number(0, 65535, "not a u16"), number(0, 2**32 - 1, "not a u32")
+i16, i32 = number(-(2**15), 2**15 - 1, "not an i16"), number(-(2**31), 2**31 - 1, "not an i32")
+b32, b64, flag = digits(8), digits(16), lambda word: int(one_of("not 0 or 1", "0", "1")(word))
+kind, store = str, one_of("not 16 or 32", "16", "32")  # a filter's name is looked up when all other words are right
 
 
 def show(values, form="%d"):
@@ -105,21 +107,48 @@ REQUESTS |= {
 }
 
 
+def values(words, reads):
+    """The words as their kinds read them, in their order; the first that is none, is missing or is one too many is bad."""
+    made = []
+    for at, read in enumerate(reads, 1):
+        if at >= len(words):
+            raise Bad(at + 1, "a word too few")
+        try:
+            made.append(read(words[at]))
+        except Bad as bad:
+            raise Bad(at + 1, *bad.args)
+    if len(words) > len(reads) + 1:
+        raise Bad(len(reads) + 2, "a word too many")
+    if kind in reads and made[0] not in weights.FILTERS:
+        raise Bad(2, "no filter")
+    return made
+
+
+def request(words):
+    if words[0] == "fit":
+        none = words[5:6] == ["none"]
+        made = values(words, (u32,) * 4 + ((str,) if none else (b64, b64)))
+        return fitted(*made[:4], None if none else tuple(made[4:]))
+    if words[0] == "sheet":
+        if words[4:5] not in (["16"], ["32"]):
+            values(words[:5], (str, u32, u32, store))
+        bits = int(words[4])
+        reads = (kind, u32, u32, lambda word: bits, u32, listed(i16 if bits == 16 else i32)) + LISTS + (lent(524288),)
+        return sheet(*values(words, reads))
+    if words[0] not in REQUESTS:
+        raise Bad(1, "no request")
+    reads, of = REQUESTS[words[0]]
+    return of(*values(words, reads))
+
+
 def answer(line):
-    words = line.split(" ")
+    if line == "":
+        return ""
     try:
-        if words[0] == "fit":
-            centring = None if words[5:] == ["none"] else tuple(map(b64, words[5:]))
-            if centring is not None and len(centring) != 2:
-                raise Bad
-            return fitted(*map(u32, words[1:5]), centring)
-        if words[0] == "sheet" and len(words) == 10:
-            store = int(one_of("16", "32")(words[4]))
-            reads = (kind, u32, u32, lambda word: store, u32, listed(i16 if store == 16 else i32)) + LISTS + (lent(524288),)
-            return sheet(*(read(word) for read, word in zip(reads, words[1:])))
-        reads, of = REQUESTS[words[0]]
-        if len(words) != len(reads) + 1:
-            raise Bad
-        return of(*(read(word) for read, word in zip(reads, words[1:])))
-    except (Bad, KeyError):
-        return "" if line == "" else "bad"
+        if len(line) > 262143:
+            raise Bad(0, "a line too long")
+        if line.endswith("\r"):
+            raise Bad(0, "a carriage return")
+        return request(line.split(" "))
+    except Bad as bad:
+        return "bad %d %s" % bad.args

@@ -28,7 +28,8 @@ def functions(root, crate):
                 fn = [owner + m.group(3), m.group(2) == "pub ", {}, set(), place, m.group(1)]
             m = fn and re.match(r"\s*(ensures|requires)\s*(\w*)\s*\{(.*)", line)
             if m and m.group(1) == "ensures":
-                fn[2].setdefault(m.group(2) or "ensures", set()).update(named(m.group(3), table))
+                if m.group(2) or not fn[1]:  # a public one without a name is a bound that a caller's safety rests on, and no contract
+                    fn[2].setdefault(m.group(2) or "ensures", set()).update(named(m.group(3), table))
             elif m:
                 fn[3].update(named(m.group(3), table))
             place += len(line)

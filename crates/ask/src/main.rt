@@ -1,4 +1,4 @@
 // Answers the requests of standard input, a line each (docs/PROTOCOL.md).
 fn main() {
-    answering::run();
+    ask_program::run();
 }

@@ -1,71 +1,51 @@
 // The request `fit SW SH DW DH none`, or with two centring numbers in place of `none`.
-use asking::Words;
-use asking::fields;
-use asking::fields::Double;
-use asking::fields::Whole;
+use answer_lines::Said;
+use answer_lines::emit;
 use crop_box::Centring;
 use crop_box::CropBox;
 use crop_box::Fitted;
-use telling::emit;
+use request_fields::Fault;
+use request_fields::fields;
 
-enum Placed {
-    Is(Centring),
-    Bad,
+// The line's first fault, with a centring or without.
+fn fault_of(none: bool, line: &[u8]) -> Fault {
+    if none {
+        return request_fields::first_fault(line, b"wwwwk");
+    }
+    request_fields::first_fault(line, b"wwwwxx")
 }
 
-// Words 5 and 6 as the centring, where there are as many words as it wants.
-fn centring(line: &[u8], w: Words) -> Placed {
-    if w.count == 6 {
-        if fields::is(line, w, 5, b"none") {
-            return Placed::Is(Centring::Absent);
-        }
-        return Placed::Bad;
+// Words 5 and 6 as the centring.
+fn centring(none: bool, line: &[u8]) -> Centring {
+    if none {
+        return Centring::Absent;
     }
-    if w.count != 7 {
-        return Placed::Bad;
-    }
-    let across_read = fields::double_at(line, w, 5);
-    let Double::Is(across) = across_read else {
-        return Placed::Bad;
-    };
-    let down_read = fields::double_at(line, w, 6);
-    let Double::Is(down) = down_read else {
-        return Placed::Bad;
-    };
-    Placed::Is(Centring::At(across, down))
+    Centring::At(fields::double(line, 5), fields::double(line, 6))
 }
 
 // The line's answer.
-pub(crate) fn fit(line: &[u8], w: Words, n: usize, out: &mut [u8]) -> usize {
-    let placed = centring(line, w);
-    let Placed::Is(place) = placed else {
-        return emit::bad(n, out);
-    };
-    let source_width_read = fields::whole_at(line, w, 1);
-    let Whole::Is(source_width) = source_width_read else {
-        return emit::bad(n, out);
-    };
-    let source_height_read = fields::whole_at(line, w, 2);
-    let Whole::Is(source_height) = source_height_read else {
-        return emit::bad(n, out);
-    };
-    let width_read = fields::whole_at(line, w, 3);
-    let Whole::Is(width) = width_read else {
-        return emit::bad(n, out);
-    };
-    let height_read = fields::whole_at(line, w, 4);
-    let Whole::Is(height) = height_read else {
-        return emit::bad(n, out);
-    };
-    let fitted = crop_box::fit_src_into_dst_size(source_width, source_height, width, height, place);
-    show(fitted, n, out)
+pub(crate) fn fit(line: &[u8], n: usize, out: &mut [u8]) -> Said {
+    let none = fields::is(line, 5, b"none");
+    let f = fault_of(none, line);
+    if f.reason != 0 {
+        return answer_lines::told(answer_lines::bad(f.word, f.reason, n, out));
+    }
+    let place = centring(none, line);
+    let fitted = crop_box::fit_src_into_dst_size(
+        fields::whole(line, 1),
+        fields::whole(line, 2),
+        fields::whole(line, 3),
+        fields::whole(line, 4),
+        place,
+    );
+    show(fitted.number(), box_of(fitted), n, out)
 }
 
-// The number and the box.
-fn show(fitted: Fitted, n: usize, out: &mut [u8]) -> usize {
+// The box, or the four numbers beside a refusal.
+fn box_of(fitted: Fitted) -> CropBox {
     match fitted {
-        Fitted::Fit(b) => show_box(0, b, n, out),
-        Fitted::Refused(r) => show_box(refusal::number(r), no_box(), n, out),
+        Fitted::Fit(b) => b,
+        Fitted::Refused(_) => no_box(),
     }
 }
 
@@ -80,16 +60,10 @@ fn no_box() -> CropBox {
 }
 
 // A number and four doubles.
-fn show_box(no: u32, b: CropBox, n: usize, out: &mut [u8]) -> usize {
+fn show(no: u32, b: CropBox, n: usize, out: &mut [u8]) -> Said {
     let p = emit::whole(no, n, out);
-    let q = next_double(b.left, p, out);
-    let r = next_double(b.top, q, out);
-    let s = next_double(b.width, r, out);
-    next_double(b.height, s, out)
-}
-
-// A space and a double.
-fn next_double(x: f64, n: usize, out: &mut [u8]) -> usize {
-    let p = emit::byte(b' ', n, out);
-    emit::double(x, p, out)
+    let q = emit::next_double(b.left, p, out);
+    let r = emit::next_double(b.top, q, out);
+    let s = emit::next_double(b.width, r, out);
+    answer_lines::told(emit::next_double(b.height, s, out))
 }

@@ -1,59 +1,45 @@
-// The requests `norm16` and `norm32`, answered by `normalizer`, and `clip8 I`, answered by `clips`.
+// The requests `norm16` and `norm32`, answered by `normalizer`.
 mod norm16;
 mod norm32;
-mod sides;
 
-use asking::Words;
-use asking::fields;
-use asking::fields::Integer;
-use sides::Sided;
-use telling::emit;
+use answer_lines::Said;
+use answer_lines::emit;
+use normalizer::Normalized;
+use request_fields::fields;
 
-// Whether the line's first word is one of these requests.
-pub fn knows(line: &[u8], w: Words) -> bool {
-    fields::is(line, w, 0, b"norm16")
-        | fields::is(line, w, 0, b"norm32")
-        | fields::is(line, w, 0, b"clip8")
+// The line's answer, where it is one of these requests.
+pub fn answer(
+    line: &[u8],
+    s: Said,
+    out: &mut [u8],
+    weights: &mut [f64],
+    starts: &mut [u32],
+    sizes: &mut [u32],
+    narrow: &mut [i16],
+    wide: &mut [i32],
+) -> Said {
+    if s.done {
+        return s;
+    }
+    if fields::is(line, 0, b"norm16") {
+        return norm16::of_line(line, s.n, out, weights, starts, sizes, narrow);
+    }
+    if fields::is(line, 0, b"norm32") {
+        return norm32::of_line(line, s.n, out, weights, starts, sizes, wide);
+    }
+    s
 }
 
-// The line's answer.
-pub fn answer(line: &[u8], w: Words, n: usize, out: &mut [u8]) -> usize {
-    if fields::is(line, w, 0, b"clip8") {
-        return clip8(line, w, n, out);
-    }
-    if w.count != 7 {
-        return emit::bad(n, out);
-    }
-    let sides_read = sides::sides_of(line, w);
-    let Sided::Is(s) = sides_read else {
-        return emit::bad(n, out);
-    };
-    let small = fields::small(line, w, 6);
-    if fields::is(line, w, 0, b"norm16") {
-        if small {
-            return norm16::small(s, line, w, n, out);
-        }
-        return norm16::large(s, line, w, n, out);
-    }
-    if small {
-        return norm32::small(s, line, w, n, out);
-    }
-    norm32::large(s, line, w, n, out)
+// The number of the answer, and the precision.
+pub(crate) fn show(answer: Normalized, n: usize, out: &mut [u8]) -> usize {
+    let p = emit::whole(answer.number(), n, out);
+    emit::next_whole(precision(answer), p, out)
 }
 
-// clip8 I
-fn clip8(line: &[u8], w: Words, n: usize, out: &mut [u8]) -> usize {
-    if w.count != 2 {
-        return emit::bad(n, out);
+// The precision, 0 beside a refusal.
+fn precision(answer: Normalized) -> u32 {
+    match answer {
+        Normalized::Done(precision) => precision,
+        Normalized::Refused(_) => 0,
     }
-    let value_read = fields::integer_at(line, w, 1);
-    let Integer::Is(v) = value_read else {
-        return emit::bad(n, out);
-    };
-    emit::whole(wide(clips::clip8(v)), n, out)
-}
-
-// A byte as a number of 32 bits.
-fn wide(x: u8) -> u32 {
-    x as u32
 }

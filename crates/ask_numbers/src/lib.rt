@@ -1,69 +1,86 @@
-// The requests `abs`, `floor`, `ceil`, `round`, `narrow` of a double's pattern and `widen` of a single's, answered by `numbers`.
-use asking::Num;
-use asking::Words;
-use asking::fields;
-use telling::emit;
+// The requests `abs`, `floor`, `ceil`, `round`, `narrow` of a double's pattern and `widen` of a single's, answered by `numbers`; and `clip8 I`,
+// answered by `clips`.
+use answer_lines::Said;
+use answer_lines::emit;
+use request_fields::fields;
 
-// Whether the line's first word is one of these requests.
-pub fn knows(line: &[u8], w: Words) -> bool {
-    fields::is(line, w, 0, b"abs")
-        | fields::is(line, w, 0, b"floor")
-        | fields::is(line, w, 0, b"ceil")
-        | fields::is(line, w, 0, b"round")
-        | fields::is(line, w, 0, b"narrow")
-        | fields::is(line, w, 0, b"widen")
+// The line's answer, where it is one of these requests.
+pub fn answer(line: &[u8], s: Said, out: &mut [u8]) -> Said {
+    if s.done {
+        return s;
+    }
+    if fields::is(line, 0, b"widen") {
+        return widen(line, s.n, out);
+    }
+    if fields::is(line, 0, b"clip8") {
+        return clip8(line, s.n, out);
+    }
+    let operation = operation_of(line);
+    if operation == 0 {
+        return s;
+    }
+    double(operation, line, s.n, out)
 }
 
-// The line's answer.
-pub fn answer(line: &[u8], w: Words, n: usize, out: &mut [u8]) -> usize {
-    if w.count != 2 {
-        return emit::bad(n, out);
+// The operation on a double's pattern that the line's first word names, 0 for none.
+fn operation_of(line: &[u8]) -> u32 {
+    if fields::is(line, 0, b"abs") {
+        return 1;
     }
-    if fields::is(line, w, 0, b"widen") {
-        return widen(line, w, n, out);
+    if fields::is(line, 0, b"floor") {
+        return 2;
     }
-    double(line, w, n, out)
+    if fields::is(line, 0, b"ceil") {
+        return 3;
+    }
+    if fields::is(line, 0, b"round") {
+        return 4;
+    }
+    if fields::is(line, 0, b"narrow") {
+        return 5;
+    }
+    0
 }
 
 // widen X, the pattern of a single.
-fn widen(line: &[u8], w: Words, n: usize, out: &mut [u8]) -> usize {
-    let x_read = fields::hex_at(line, w, 1, 8);
-    let Num::Is(x) = x_read else {
-        return emit::bad(n, out);
-    };
-    emit::hex(numbers::widen_bits(pattern32(x)), 16, n, out)
-}
-
-// A pattern of 32 bits; 0 for what is longer, which 8 digits cannot be.
-fn pattern32(x: u64) -> u32 {
-    if 0xffff_ffff < x {
-        return 0;
+fn widen(line: &[u8], n: usize, out: &mut [u8]) -> Said {
+    let f = request_fields::first_fault(line, b"y");
+    if f.reason != 0 {
+        return answer_lines::told(answer_lines::bad(f.word, f.reason, n, out));
     }
-    x as u32
+    let x = numbers::widen_bits(fields::pattern32(line, 1));
+    answer_lines::told(emit::hex(x, 16, n, out))
 }
 
-// A pattern of 32 bits as a number of 64.
-fn wide(x: u32) -> u64 {
-    x as u64
+// clip8 I
+fn clip8(line: &[u8], n: usize, out: &mut [u8]) -> Said {
+    let f = request_fields::first_fault(line, b"j");
+    if f.reason != 0 {
+        return answer_lines::told(answer_lines::bad(f.word, f.reason, n, out));
+    }
+    let x = clips::clip8(fields::integer(line, 1));
+    answer_lines::told(emit::whole(x as u32, n, out))
 }
 
 // The others, of the pattern of a double.
-fn double(line: &[u8], w: Words, n: usize, out: &mut [u8]) -> usize {
-    let x_read = fields::hex_at(line, w, 1, 16);
-    let Num::Is(x) = x_read else {
-        return emit::bad(n, out);
-    };
-    if fields::is(line, w, 0, b"abs") {
-        return emit::hex(numbers::abs_bits(x), 16, n, out);
+fn double(operation: u32, line: &[u8], n: usize, out: &mut [u8]) -> Said {
+    let f = request_fields::first_fault(line, b"x");
+    if f.reason != 0 {
+        return answer_lines::told(answer_lines::bad(f.word, f.reason, n, out));
     }
-    if fields::is(line, w, 0, b"floor") {
-        return emit::hex(numbers::floor_bits(x), 16, n, out);
+    let x = fields::pattern(line, 1);
+    if operation == 5 {
+        return answer_lines::told(emit::hex(numbers::narrow_bits(x) as u64, 8, n, out));
     }
-    if fields::is(line, w, 0, b"ceil") {
-        return emit::hex(numbers::ceil_bits(x), 16, n, out);
+    answer_lines::told(emit::hex(rounded(operation, x), 16, n, out))
+}
+
+// The pattern of the result.
+fn rounded(operation: u32, x: u64) -> u64 {
+    match operation {
+        1 => numbers::abs_bits(x),
+        2 => numbers::floor_bits(x),
+        3 => numbers::ceil_bits(x),
+        _ => numbers::round_bits(x),
     }
-    if fields::is(line, w, 0, b"round") {
-        return emit::hex(numbers::round_bits(x), 16, n, out);
-    }
-    emit::hex(wide(numbers::narrow_bits(x)), 8, n, out)
 }

@@ -1,66 +1,71 @@
 // f32pass LINES ROW FIRST COUNT WINDOW WEIGHTS STARTS SIZES SAMPLES NOUT
-use crate::f32arrays;
-use crate::frame;
-use crate::frame::Frame;
-use crate::frame::Framed;
-use asking::Words;
-use asking::f32s;
-use asking::fields;
-use telling::emit;
-use vertical::Passed;
+use answer_lines::Said;
+use answer_lines::emit;
+use request_fields::f32s;
+use request_fields::f64s;
+use request_fields::fields;
+use request_fields::u32s;
 
 // The line's answer.
-pub(crate) fn answer(line: &[u8], w: Words, n: usize, out: &mut [u8]) -> usize {
-    if w.count != 11 {
-        return emit::bad(n, out);
+pub(crate) fn of_line(
+    line: &[u8],
+    n: usize,
+    out: &mut [u8],
+    weights: &mut [f64],
+    starts: &mut [u32],
+    sizes: &mut [u32],
+    samples: &mut [f32],
+    lent: &mut [f32],
+) -> Said {
+    let f = request_fields::first_fault(line, b"wwwwwXWWYn");
+    if f.reason != 0 {
+        return answer_lines::told(answer_lines::bad(f.word, f.reason, n, out));
     }
-    let frame_read = frame::frame_of(line, w);
-    let Framed::Is(f) = frame_read else {
-        return emit::bad(n, out);
-    };
-    if fields::small(line, w, 10) {
-        return f32arrays::small(f, line, w, n, out);
-    }
-    f32arrays::large(f, line, w, n, out)
+    let a: usize = 0;
+    let slots = f64s::read(line, 6, weights);
+    let i = u32s::read(line, 7, starts);
+    let j = u32s::read(line, 8, sizes);
+    framed(
+        line,
+        &weights[a..slots],
+        &starts[a..i],
+        &sizes[a..j],
+        samples,
+        lent,
+        n,
+        out,
+    )
 }
 
-// SAMPLES and NOUT, words 9 and 10.
-pub(crate) fn read_samples(
-    f: Frame,
+// SAMPLES and NOUT, the last two words.
+fn framed(
+    line: &[u8],
     weights: &[f64],
     starts: &[u32],
     sizes: &[u32],
-    line: &[u8],
-    w: Words,
-    n: usize,
-    out: &mut [u8],
     samples: &mut [f32],
     lent: &mut [f32],
-) -> usize {
+    n: usize,
+    out: &mut [u8],
+) -> Said {
     let a: usize = 0;
-    let i = f32s::read(line, w, 9, samples);
-    if samples.len() < i {
-        return emit::bad(n, out);
-    }
-    let m = fields::length_at(line, w, 10);
-    if lent.len() < m {
-        return emit::bad(n, out);
-    }
+    let l = f32s::read(line, 9, samples);
+    let m = f32s::lend(line, 10, lent);
     pass(
-        f,
+        line,
         weights,
         starts,
         sizes,
-        &samples[a..i],
+        &samples[a..l],
         &mut lent[a..m],
         n,
         out,
     )
 }
 
-// The pass itself, its output filled before the call.
+// The pass itself; the number and the output.
 fn pass(
-    f: Frame,
+    line: &[u8],
     weights: &[f64],
     starts: &[u32],
     sizes: &[u32],
@@ -68,26 +73,20 @@ fn pass(
     lent: &mut [f32],
     n: usize,
     out: &mut [u8],
-) -> usize {
-    f32s::fill(lent);
+) -> Said {
     let answer = vertical_f32::vert_convolution_f32(
         samples,
-        f.lines,
-        f.row,
-        f.first,
-        f.count,
+        fields::whole(line, 1),
+        fields::whole(line, 2),
+        fields::whole(line, 3),
+        fields::whole(line, 4),
         weights,
         starts,
         sizes,
-        f.window,
+        fields::whole(line, 5),
         lent,
     );
-    show(answer, lent, n, out)
-}
-
-// The number and the output.
-fn show(answer: Passed, lent: &[f32], n: usize, out: &mut [u8]) -> usize {
-    let p = emit::whole(frame::passed_number(answer), n, out);
+    let p = emit::whole(answer.number(), n, out);
     let q = emit::byte(b' ', p, out);
-    telling::f32s::show(lent, q, out)
+    answer_lines::told(answer_lines::f32s::show(lent, q, out))
 }

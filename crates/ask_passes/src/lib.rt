@@ -1,25 +1,46 @@
-// The requests `u16pass` and `f32pass`, answered by `vertical_u16` and `vertical_f32`. A module for each. The arrays stand in functions of
-// their own, and only the parts in use are handed on.
-mod f32arrays;
-mod f32lists;
+// The requests `u16pass` and `f32pass`, answered by `vertical_u16` and `vertical_f32`.
 mod f32pass;
-mod frame;
-mod u16arrays;
-mod u16lists;
 mod u16pass;
 
-use asking::Words;
-use asking::fields;
+use answer_lines::Said;
+use request_fields::fields;
 
-// Whether the line's first word is one of these requests.
-pub fn knows(line: &[u8], w: Words) -> bool {
-    fields::is(line, w, 0, b"u16pass") | fields::is(line, w, 0, b"f32pass")
+// The line's answer, where it is `u16pass`.
+pub fn answer_u16(
+    line: &[u8],
+    s: Said,
+    out: &mut [u8],
+    weights: &mut [i32],
+    starts: &mut [u32],
+    sizes: &mut [u32],
+    samples: &mut [u16],
+    lent: &mut [u16],
+) -> Said {
+    if s.done {
+        return s;
+    }
+    if fields::is(line, 0, b"u16pass") {
+        return u16pass::of_line(line, s.n, out, weights, starts, sizes, samples, lent);
+    }
+    s
 }
 
-// The line's answer.
-pub fn answer(line: &[u8], w: Words, n: usize, out: &mut [u8]) -> usize {
-    if fields::is(line, w, 0, b"u16pass") {
-        return u16pass::answer(line, w, n, out);
+// The line's answer, where it is `f32pass`.
+pub fn answer_f32(
+    line: &[u8],
+    s: Said,
+    out: &mut [u8],
+    weights: &mut [f64],
+    starts: &mut [u32],
+    sizes: &mut [u32],
+    samples: &mut [f32],
+    lent: &mut [f32],
+) -> Said {
+    if s.done {
+        return s;
     }
-    f32pass::answer(line, w, n, out)
+    if fields::is(line, 0, b"f32pass") {
+        return f32pass::of_line(line, s.n, out, weights, starts, sizes, samples, lent);
+    }
+    s
 }

@@ -1,74 +1,71 @@
 // u16pass LINES ROW FIRST COUNT WINDOW PRECISION WEIGHTS STARTS SIZES SAMPLES NOUT
-use crate::frame;
-use crate::frame::Frame;
-use crate::frame::Framed;
-use crate::u16arrays;
-use asking::Words;
-use asking::fields;
-use asking::fields::Whole;
-use asking::u16s;
-use telling::emit;
-use vertical::Passed;
+use answer_lines::Said;
+use answer_lines::emit;
+use request_fields::fields;
+use request_fields::i32s;
+use request_fields::u16s;
+use request_fields::u32s;
 
 // The line's answer.
-pub(crate) fn answer(line: &[u8], w: Words, n: usize, out: &mut [u8]) -> usize {
-    if w.count != 12 {
-        return emit::bad(n, out);
+pub(crate) fn of_line(
+    line: &[u8],
+    n: usize,
+    out: &mut [u8],
+    weights: &mut [i32],
+    starts: &mut [u32],
+    sizes: &mut [u32],
+    samples: &mut [u16],
+    lent: &mut [u16],
+) -> Said {
+    let f = request_fields::first_fault(line, b"wwwwwwJWWHn");
+    if f.reason != 0 {
+        return answer_lines::told(answer_lines::bad(f.word, f.reason, n, out));
     }
-    let frame_read = frame::frame_of(line, w);
-    let Framed::Is(f) = frame_read else {
-        return emit::bad(n, out);
-    };
-    let precision_read = fields::whole_at(line, w, 6);
-    let Whole::Is(precision) = precision_read else {
-        return emit::bad(n, out);
-    };
-    if fields::small(line, w, 11) {
-        return u16arrays::small(f, precision, line, w, n, out);
-    }
-    u16arrays::large(f, precision, line, w, n, out)
+    let a: usize = 0;
+    let slots = i32s::read(line, 7, weights);
+    let i = u32s::read(line, 8, starts);
+    let j = u32s::read(line, 9, sizes);
+    framed(
+        line,
+        &weights[a..slots],
+        &starts[a..i],
+        &sizes[a..j],
+        samples,
+        lent,
+        n,
+        out,
+    )
 }
 
-// SAMPLES and NOUT, words 10 and 11.
-pub(crate) fn read_samples(
-    f: Frame,
-    precision: u32,
+// SAMPLES and NOUT, the last two words.
+fn framed(
+    line: &[u8],
     weights: &[i32],
     starts: &[u32],
     sizes: &[u32],
-    line: &[u8],
-    w: Words,
-    n: usize,
-    out: &mut [u8],
     samples: &mut [u16],
     lent: &mut [u16],
-) -> usize {
+    n: usize,
+    out: &mut [u8],
+) -> Said {
     let a: usize = 0;
-    let i = u16s::read(line, w, 10, samples);
-    if samples.len() < i {
-        return emit::bad(n, out);
-    }
-    let m = fields::length_at(line, w, 11);
-    if lent.len() < m {
-        return emit::bad(n, out);
-    }
+    let l = u16s::read(line, 10, samples);
+    let m = u16s::lend(line, 11, lent);
     pass(
-        f,
-        precision,
+        line,
         weights,
         starts,
         sizes,
-        &samples[a..i],
+        &samples[a..l],
         &mut lent[a..m],
         n,
         out,
     )
 }
 
-// The pass itself, its output filled before the call.
+// The pass itself; the number and the output.
 fn pass(
-    f: Frame,
-    precision: u32,
+    line: &[u8],
     weights: &[i32],
     starts: &[u32],
     sizes: &[u32],
@@ -76,27 +73,21 @@ fn pass(
     lent: &mut [u16],
     n: usize,
     out: &mut [u8],
-) -> usize {
-    u16s::fill(lent);
+) -> Said {
     let answer = vertical_u16::vert_convolution_u16(
         samples,
-        f.lines,
-        f.row,
-        f.first,
-        f.count,
+        fields::whole(line, 1),
+        fields::whole(line, 2),
+        fields::whole(line, 3),
+        fields::whole(line, 4),
         weights,
         starts,
         sizes,
-        f.window,
-        precision,
+        fields::whole(line, 5),
+        fields::whole(line, 6),
         lent,
     );
-    show(answer, lent, n, out)
-}
-
-// The number and the output.
-fn show(answer: Passed, lent: &[u16], n: usize, out: &mut [u8]) -> usize {
-    let p = emit::whole(frame::passed_number(answer), n, out);
+    let p = emit::whole(answer.number(), n, out);
     let q = emit::byte(b' ', p, out);
-    telling::u16s::show(lent, q, out)
+    answer_lines::told(answer_lines::u16s::show(lent, q, out))
 }

@@ -1,62 +1,71 @@
 // The request `sheet KIND LINES WINDOW STORE PRECISION WEIGHTS STARTS SIZES ROOM`, answered by `sheet`, with a module for each store.
-mod set;
 mod store16;
 mod store32;
 
-use asking::Words;
-use asking::fields;
-use set::Described;
+use answer_lines::Said;
+use answer_lines::emit;
+use request_fields::Fault;
+use request_fields::fields;
 use sheet::Sheet;
-use telling::emit;
 
-// Whether the line's first word is this request.
-pub fn knows(line: &[u8], w: Words) -> bool {
-    fields::is(line, w, 0, b"sheet")
+// The line's answer, where it is this request.
+pub fn answer(
+    line: &[u8],
+    s: Said,
+    out: &mut [u8],
+    narrow: &mut [i16],
+    wide: &mut [i32],
+    starts: &mut [u32],
+    sizes: &mut [u32],
+    room: &mut [u8],
+) -> Said {
+    if s.done {
+        return s;
+    }
+    if !fields::is(line, 0, b"sheet") {
+        return s;
+    }
+    if fields::is(line, 4, b"16") {
+        return store16::of_line(line, s.n, out, narrow, starts, sizes, room);
+    }
+    if fields::is(line, 4, b"32") {
+        return store32::of_line(line, s.n, out, wide, starts, sizes, room);
+    }
+    let f = store_fault(line);
+    answer_lines::told(answer_lines::bad(f.word, f.reason, s.n, out))
 }
 
-// The line's answer.
-pub fn answer(line: &[u8], w: Words, n: usize, out: &mut [u8]) -> usize {
-    if w.count != 10 {
-        return emit::bad(n, out);
+// The first fault of a line whose word 4 is no store: one before it, or that word itself.
+fn store_fault(line: &[u8]) -> Fault {
+    let f = request_fields::first_fault(line, b"kww");
+    if f.reason == 0 {
+        return Fault {
+            word: 5,
+            reason: b'-',
+        };
     }
-    let set_read = set::set_of(line, w);
-    let Described::Is(s) = set_read else {
-        return emit::bad(n, out);
-    };
-    let small = fields::small(line, w, 9);
-    if fields::is(line, w, 4, b"16") {
-        if small {
-            return store16::small(s, line, w, n, out);
-        }
-        return store16::large(s, line, w, n, out);
+    if f.reason == b'+' {
+        return Fault {
+            word: 5,
+            reason: b's',
+        };
     }
-    if fields::is(line, w, 4, b"32") {
-        if small {
-            return store32::small(s, line, w, n, out);
-        }
-        return store32::large(s, line, w, n, out);
-    }
-    emit::bad(n, out)
+    f
 }
 
 // The number, the length and the lent list's bytes.
-pub(crate) fn show(answer: Sheet, lent: &[u8], n: usize, out: &mut [u8]) -> usize {
-    let p = show_numbers(answer, n, out);
+pub(crate) fn show(answer: Sheet, lent: &[u8], n: usize, out: &mut [u8]) -> Said {
+    let p = emit::whole(answer.number(), n, out);
     let q = emit::byte(b' ', p, out);
-    telling::u8s::show_hex(lent, q, out)
+    let r = emit::number(length(answer), q, out);
+    let t = emit::byte(b' ', r, out);
+    answer_lines::told(answer_lines::u8s::show_hex(lent, t, out))
 }
 
-// The number of the answer, and the sheet's length.
-fn show_numbers(answer: Sheet, n: usize, out: &mut [u8]) -> usize {
+// The sheet's length, 0 beside a refusal.
+fn length(answer: Sheet) -> u64 {
     match answer {
-        Sheet::Written(length) => show_pair(0, length, n, out),
-        Sheet::Refused(r) => show_pair(refusal::number(r), 0, n, out),
+        Sheet::Written(length) => length,
+        Sheet::Refused(_) => 0,
     }
-}
-
-// Two numbers.
-fn show_pair(no: u32, length: u64, n: usize, out: &mut [u8]) -> usize {
-    let p = emit::whole(no, n, out);
-    let q = emit::byte(b' ', p, out);
-    emit::number(length, q, out)
 }

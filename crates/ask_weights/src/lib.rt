@@ -1,101 +1,75 @@
 // The request `build KIND ADAPT AXIS SW SH OUT L T W H NSLOTS NSTARTS NSIZES`, answered by `coefficients`.
-mod built;
-mod request;
-
-use asking::Words;
-use asking::f64s;
-use asking::fields;
-use asking::u32s;
+use answer_lines::Said;
+use answer_lines::emit;
+use coefficients::Axis;
+use coefficients::Built;
 use coefficients::Request;
-use request::Asked;
-use telling::emit;
+use filter_fields::Kind;
+use filters::FilterType;
+use request_fields::f64s;
+use request_fields::fields;
+use request_fields::u32s;
 
-// Whether the line's first word is this request.
-pub fn knows(line: &[u8], w: Words) -> bool {
-    fields::is(line, w, 0, b"build")
-}
-
-// The line's answer.
-pub fn answer(line: &[u8], w: Words, n: usize, out: &mut [u8]) -> usize {
-    if w.count != 14 {
-        return emit::bad(n, out);
-    }
-    let asked = request::request_of(line, w);
-    let Asked::Is(r) = asked else {
-        return emit::bad(n, out);
-    };
-    if fields::small(line, w, 11) & fields::small(line, w, 12) & fields::small(line, w, 13) {
-        return small(r, line, w, n, out);
-    }
-    large(r, line, w, n, out)
-}
-
-// For lists of up to 1,024.
-fn small(r: Request, line: &[u8], w: Words, n: usize, out: &mut [u8]) -> usize {
-    let mut slots = [0.0f64; 1024];
-    let mut starts = [0u32; 1024];
-    let mut sizes = [0u32; 1024];
-    read(r, line, w, n, out, &mut slots, &mut starts, &mut sizes)
-}
-
-// For all others.
-fn large(r: Request, line: &[u8], w: Words, n: usize, out: &mut [u8]) -> usize {
-    let mut slots = [0.0f64; 131072];
-    let mut starts = [0u32; 131072];
-    let mut sizes = [0u32; 131072];
-    read(r, line, w, n, out, &mut slots, &mut starts, &mut sizes)
-}
-
-// NSLOTS, NSTARTS and NSIZES, words 11 to 13.
-fn read(
-    r: Request,
+// The line's answer, where it is this request.
+pub fn answer(
     line: &[u8],
-    w: Words,
-    n: usize,
+    s: Said,
     out: &mut [u8],
     slots: &mut [f64],
     starts: &mut [u32],
     sizes: &mut [u32],
-) -> usize {
+) -> Said {
+    if s.done {
+        return s;
+    }
+    if !fields::is(line, 0, b"build") {
+        return s;
+    }
+    let f = request_fields::first_fault(line, b"kzzwwwxxxxnnn");
+    if f.reason != 0 {
+        return answer_lines::told(answer_lines::bad(f.word, f.reason, s.n, out));
+    }
+    let kind_read = filter_fields::kind_at(line, 1);
+    let Kind::Is(kind) = kind_read else {
+        return answer_lines::told(answer_lines::bad(2, b'k', s.n, out));
+    };
     let a: usize = 0;
-    let i = fields::length_at(line, w, 11);
-    if slots.len() < i {
-        return emit::bad(n, out);
-    }
-    let j = fields::length_at(line, w, 12);
-    if starts.len() < j {
-        return emit::bad(n, out);
-    }
-    let k = fields::length_at(line, w, 13);
-    if sizes.len() < k {
-        return emit::bad(n, out);
-    }
-    filled(
-        r,
+    let i = f64s::lend(line, 11, slots);
+    let j = u32s::lend(line, 12, starts);
+    let k = u32s::lend(line, 13, sizes);
+    let request = request_of(kind, line);
+    build(
+        request,
         &mut slots[a..i],
         &mut starts[a..j],
         &mut sizes[a..k],
-        n,
+        s.n,
         out,
     )
 }
 
-// The lists filled before the call.
-fn filled(
-    r: Request,
-    slots: &mut [f64],
-    starts: &mut [u32],
-    sizes: &mut [u32],
-    n: usize,
-    out: &mut [u8],
-) -> usize {
-    f64s::fill(slots);
-    u32s::fill(starts);
-    u32s::fill(sizes);
-    build(r, slots, starts, sizes, n, out)
+// What is asked for, words 1 to 10.
+fn request_of(kind: FilterType, line: &[u8]) -> Request {
+    Request {
+        width: fields::whole(line, 4),
+        height: fields::whole(line, 5),
+        crop: filter_fields::box_at(line, 7, 8, 9, 10),
+        axis: axis_of(fields::flag(line, 3)),
+        output: fields::whole(line, 6),
+        filter: kind,
+        adapts: fields::flag(line, 2),
+    }
 }
 
-// The builder itself.
+// 1 is down, 0 across.
+fn axis_of(down: bool) -> Axis {
+    if down {
+        return Axis::Down;
+    }
+    Axis::Across
+}
+
+// The builder itself; the three numbers and the three lists.
 fn build(
     r: Request,
     slots: &mut [f64],
@@ -103,7 +77,36 @@ fn build(
     sizes: &mut [u32],
     n: usize,
     out: &mut [u8],
-) -> usize {
-    let answer = coefficients::build(r, slots, starts, sizes);
-    built::show(answer, slots, starts, sizes, n, out)
+) -> Said {
+    let built = coefficients::build(r, slots, starts, sizes);
+    let p = show_built(built, n, out);
+    let q = emit::byte(b' ', p, out);
+    let s = answer_lines::f64s::show(slots, q, out);
+    let t = emit::byte(b' ', s, out);
+    let u = answer_lines::u32s::show(starts, t, out);
+    let v = emit::byte(b' ', u, out);
+    answer_lines::told(answer_lines::u32s::show(sizes, v, out))
+}
+
+// The number of the answer, the first blank line, the window size.
+fn show_built(built: Built, n: usize, out: &mut [u8]) -> usize {
+    let p = emit::whole(built.number(), n, out);
+    let q = emit::next_whole(blank_line(built), p, out);
+    emit::next_whole(window(built), q, out)
+}
+
+// The first blank line, 0 where there is none.
+fn blank_line(built: Built) -> u32 {
+    match built {
+        Built::Blank(line) => line.0,
+        _ => 0,
+    }
+}
+
+// The window size, 0 beside a refusal.
+fn window(built: Built) -> u32 {
+    match built {
+        Built::Done(window) => window,
+        _ => 0,
+    }
 }

@@ -1,4 +1,4 @@
 // Prints the weight sheet that its arguments ask for (docs/SHEET.md).
 fn main() {
-    printing::run();
+    sheet_program::run();
 }

@@ -1,0 +1,20 @@
+-- The test is the definition's. Assumes nothing.
+use mathlib.Core.Path.{sym, _∙_}
+use Rattle.crop_edges.specs.Edge.{wholeAt}
+use borrow.Author.Needs.{needs}
+use Rattle.crop_edges.proofs.decimal.whole_at.Statement.{statement}
+use Rattle.crop_edges.proofs.decimal.whole_at.Tie as tie
+
+minus-requires : tie.Need-minus-requires
+minus-requires c κs = search needs
+
+returns : tie.Need-returns
+unfolding wholeAt
+returns c = rw (sym (c .before .minus .ensures) ∙ c .if1 .taken)
+
+returns-2 : tie.Need-returns-2
+unfolding wholeAt
+returns-2 c = rw (sym (c .before .minus .ensures) ∙ c .if1 .left)
+
+pub whole-at-spec : {M : Type 1} → statement M
+whole-at-spec = tie.close (tie.spec minus-requires returns returns-2)
