@@ -21,7 +21,7 @@ use Rattle.coefficients.specs.declared.Planned.{Planned}
 use Rattle.coefficients.specs.declared.Planned.the-variants.{Ready, Refused}
 use Rattle.coefficients.specs.declared.Built.the-variants.{Done, Blank, Refused as BuildRefused}
 use Rattle.coefficients.specs.Lines.{centre, rangeStart, rangeStop, lead, size, blank, firstBlank, orZero}
-use Rattle.coefficients.specs.Request.{planOf, short, judged, built, builtOf, startsOf, sizesOf}
+use Rattle.coefficients.specs.Request.{planOf, tooFewSlots, judged, built, builtOf, startsOf, sizesOf}
 use Rattle.coefficients.proofs.LineLaws.{or-zero-done}
 use Rattle.coefficients.proofs.PlanLaws.{plan-sound}
 use Rattle.coefficients.proofs.WindowLaws.{window-fits}
@@ -36,7 +36,7 @@ range-within-window q p e i h =
 pub record DoneSet (q : Request) (weights starts sizes w : ℕ) : Type 0 where
   pub plan : Plan
   pub ready : planOf q ≡ Ready plan
-  pub room : short plan weights starts sizes ≡ false
+  pub room : tooFewSlots plan weights starts sizes ≡ false
   pub wide : w ≡ plan .window
   pub whole : firstBlank plan ≡ plan .output
 
@@ -47,7 +47,7 @@ at-least p h =
     let m : p .output ≤ firstBlank p = ltb-false (firstBlank p) (p .output) h in
     omega arith
 
-ready-done : (q : Request) (a b c w : ℕ) (p : Plan) → planOf q ≡ Ready p → (s u : Bool) → short p a b c ≡ s → ltb (firstBlank p) (p .output) ≡ u
+ready-done : (q : Request) (a b c w : ℕ) (p : Plan) → planOf q ≡ Ready p → (s u : Bool) → tooFewSlots p a b c ≡ s → ltb (firstBlank p) (p .output) ≡ u
     → cond s (BuildRefused TooFewSlots) (cond u (Blank (record { 0 = firstBlank p })) (Done (p .window))) ≡ Done w → DoneSet q a b c w
 ready-done q a b c w p e true u es eu h = let z : _≡_ {A = ℕ} 0 1 = cc in absurd (omega arith)
 ready-done q a b c w p e false true es eu h = let z : _≡_ {A = ℕ} 0 1 = cc in absurd (omega arith)
@@ -58,7 +58,7 @@ ready-done q a b c w p e false false es eu h =
 plan-done : (q : Request) (a b c w : ℕ) (x : Planned) → planOf q ≡ x → judged x a b c BuildRefused built ≡ Done w → DoneSet q a b c w
 unfolding judged orZero
 plan-done q a b c w (Refused n) e h = let z : _≡_ {A = ℕ} 0 1 = cc in absurd (omega arith)
-plan-done q a b c w (Ready p) e h = ready-done q a b c w p e (short p a b c) (ltb (firstBlank p) (p .output)) refl refl h
+plan-done q a b c w (Ready p) e h = ready-done q a b c w p e (tooFewSlots p a b c) (ltb (firstBlank p) (p .output)) refl refl h
 
 pub done-set : (q : Request) (a b c w : ℕ) → builtOf q a b c ≡ Done w → DoneSet q a b c w
 done-set q a b c w h = plan-done q a b c w (planOf q) refl h

@@ -16,21 +16,21 @@ use Rattle.coefficients.specs.declared.Planned.the-variants.{Ready, Refu
 use Rattle.coefficients.specs.declared.Built.{Built}
 use Rattle.coefficients.specs.declared.Built.the-variants.{Done, Blank, Refused as BuildRefused}
 use Rattle.coefficients.specs.Lines.{blank, firstBlank, weightsIn, startsIn, sizesIn}
-use Rattle.coefficients.specs.Request.{planOf, short, judged, built, builtOf, weightsOf, startsOf, sizesOf}
+use Rattle.coefficients.specs.Request.{planOf, tooFewSlots, judged, built, builtOf, weightsOf, startsOf, sizesOf}
 use Rattle.coefficients.proofs.LineLaws.{or-zero-blank, or-zero-done}
 
 -- ---- too few slots, starts or sizes
 module _ (p : Plan) (a b c : ℕ) where
-  pub short-slots : a < p .output * p .window → short p a b c ≡ true
+  pub short-slots : a < p .output * p .window → tooFewSlots p a b c ≡ true
   short-slots h = rw (lt-ltb _ _ h)
 
-  pub short-starts : p .output * p .window ≤ a → b < p .output → short p a b c ≡ true
+  pub short-starts : p .output * p .window ≤ a → b < p .output → tooFewSlots p a b c ≡ true
   short-starts g h = rw (le-ltb _ _ g, lt-ltb _ _ h)
 
-  pub short-sizes : p .output * p .window ≤ a → p .output ≤ b → c < p .output → short p a b c ≡ true
+  pub short-sizes : p .output * p .window ≤ a → p .output ≤ b → c < p .output → tooFewSlots p a b c ≡ true
   short-sizes g h l = rw (le-ltb _ _ g, le-ltb _ _ h, lt-ltb _ _ l)
 
-  pub enough : p .output * p .window ≤ a → p .output ≤ b → p .output ≤ c → short p a b c ≡ false
+  pub enough : p .output * p .window ≤ a → p .output ≤ b → p .output ≤ c → tooFewSlots p a b c ≡ false
   enough g h l = rw (le-ltb _ _ g, le-ltb _ _ h, le-ltb _ _ l)
 
 -- ---- the answer of a plan
@@ -56,11 +56,11 @@ module _ (q : Request) (ws : List Float) (ss zs : List ℕ) where
   all-refused refusal e = rw e (refl, (refl, (refl, refl)))
 
   module _ (p : Plan) (e : planOf q ≡ Ready p) where
-    pub all-short : short p (length ws) (length ss) (length zs) ≡ true → All (BuildRefused TooFewSlots) ws ss zs
+    pub all-short : tooFewSlots p (length ws) (length ss) (length zs) ≡ true → All (BuildRefused TooFewSlots) ws ss zs
     unfolding judged
     all-short s = rw (e, s) (refl, (refl, (refl, refl)))
 
-    pub all-ready : (r : Built) (ws' : List Float) (ss' zs' : List ℕ) → short p (length ws) (length ss) (length zs) ≡ false
+    pub all-ready : (r : Built) (ws' : List Float) (ss' zs' : List ℕ) → tooFewSlots p (length ws) (length ss) (length zs) ≡ false
         → r ≡ built p → ws' ≡ weightsIn p ws → ss' ≡ startsIn p ss → zs' ≡ sizesIn p zs → All r ws' ss' zs'
     unfolding judged
     all-ready r ws' ss' zs' s er ew es ez = rw (e, s) (er, (ew, (es, ez)))

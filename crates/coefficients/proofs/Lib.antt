@@ -8,3 +8,5 @@ pub mod JudgeLaws
 pub mod BuiltLaws
 pub mod Examples
 pub mod Sure
+pub mod BlankLaws
+pub mod Rows

@@ -45,7 +45,7 @@ module _ (p : Plan) (i : ℕ) where
       (ap (weighs (p .filter) (middle p i) (p .recip)) (add-zero (lead p i)) ∙ lead-weighs h)
 
   -- no weight other than 0: blank
-  none-blank : (n : ℕ) → held p i ≡ n → n ≡ 0 → blank p i ≡ true
+  pub none-blank : (n : ℕ) → held p i ≡ n → n ≡ 0 → blank p i ≡ true
   unfolding total totalOf eq ofBits
   none-blank n e z = rw (e, z)
 

@@ -6,18 +6,18 @@ use Rattle.coefficients.specs.declared.Built.{Built}
 use Rattle.coefficients.specs.declared.Built.the-variants.{Done, Blank, Refused}
 
 abbrev pub numberOf : Built → ℕ
-numberOf (Done window) = 0
+numberOf (Done windowSize) = 0
 numberOf (Blank line) = numberOfRefusal BlankWindow
 numberOf (Refused refusal) = numberOfRefusal refusal
 
 -- the first blank display line, of No. 8 only
 abbrev pub lineOf : Built → ℕ
-lineOf (Done window) = 0
+lineOf (Done windowSize) = 0
 lineOf (Blank line) = line .0
 lineOf (Refused refusal) = 0
 
 -- the window size, of No. 0 only
 abbrev pub windowOf : Built → ℕ
-windowOf (Done window) = window
+windowOf (Done windowSize) = windowSize
 windowOf (Blank line) = 0
 windowOf (Refused refusal) = 0

@@ -47,7 +47,7 @@ size p i = sizeOf (p .filter) (middle p i) (p .recip) (lead p i) (held p i)
 unfoldable pub slot : Plan → ℕ → ℕ → Float
 slot p i k = shareOf (held p i) (total p i) k (weightFrom (p .filter) (middle p i) (p .recip) (lead p i) k)
 
--- no weight other than 0, or a weight total of 0 (where there is no weight the total is +0)
+-- no weight other than 0, or a weight total of 0: one test, by the law `blank-is` (proofs/BlankLaws.antt)
 abbrev pub blank : Plan → ℕ → Bool
 blank p i = eq (total p i) zero64
 

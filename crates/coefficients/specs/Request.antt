@@ -66,8 +66,8 @@ abbrev pub noScale : Edge → ℕ → Bool
 noScale e output = le (scaleOf e output) zero64
 
 -- No. 7: fewer slots, starts or sizes lent than needed
-abbrev pub short : Plan → ℕ → ℕ → ℕ → Bool
-short p weights starts sizes = (ltb weights (slots p) || ltb starts (p .output)) || ltb sizes (p .output)
+abbrev pub tooFewSlots : Plan → ℕ → ℕ → ℕ → Bool
+tooFewSlots p weights starts sizes = (ltb weights (slots p) || ltb starts (p .output)) || ltb sizes (p .output)
 
 -- the plan, or No. 6
 unfoldable pub scaled : FilterType → Bool → Edge → ℕ → Planned
@@ -85,7 +85,7 @@ planOf q = cond (badOutput (q .output)) (Refused BadSide) (afterCrop q (cropOf (
 -- then 7: the choice that the answer and each list make
 unfoldable pub judged : {A : Type 0} → Planned → ℕ → ℕ → ℕ → (Refusal → A) → (Plan → A) → A
 judged (Refused refusal) weights starts sizes refused planned = refused refusal
-judged (Ready p) weights starts sizes refused planned = cond (short p weights starts sizes) (refused TooFewSlots) (planned p)
+judged (Ready p) weights starts sizes refused planned = cond (tooFewSlots p weights starts sizes) (refused TooFewSlots) (planned p)
 
 -- No. 8 with the first blank line, or done with the window size
 abbrev pub built : Plan → Built

@@ -7,3 +7,4 @@ pub mod BoolLaws
 pub mod RangeLaws
 pub mod SizeLaws
 pub mod Sure
+pub mod LadderLaws

@@ -1,7 +1,7 @@
 -- The judge's answer, test by test, what an answer of `Done p` says of the set, and the list afterwards. Cited by `judge` and by both normalisers, over any store.
 -- Assumes nothing.
-use mathlib.Core.Path.{_≡_, refl, sym, ap, _∙_}
-use mathlib.Core.Bool.{Bool, true, false, not}
+use mathlib.Core.Path.{_≡_, sym, ap, _∙_}
+use mathlib.Core.Bool.{true, false}
 use mathlib.Core.List.{List}
 use Prim.Native.Nat.{ℕ, _*_, _^_, _≤_, _<_}
 use native.Mathlib.Nat.{lt-of-le-of-lt, le-of-lt, mul-le-mul}
@@ -13,7 +13,7 @@ use lib.Ieee.{Float}
 use borrow.Author.Tests.{ltb-false}
 use Rattle.lists.specs.Ranges.{badSides}
 use Rattle.lists.specs.Tab.{any, front}
-use Rattle.lists.proofs.BoolLaws.{never, or-right, ladder}
+use Rattle.lists.proofs.BoolLaws.{or-right, ladder}
 use Rattle.lists.proofs.FirstLaws.{first-le}
 use Rattle.lists.proofs.RangeLaws.{second-side}
 use Rattle.refusal.specs.declared.Refusal.{Refusal}
@@ -27,15 +27,6 @@ use Rattle.normalizer.specs.Precision.{precision, reaches, largest}
 use Rattle.normalizer.specs.Answer.{notFinite, leaves, unstorable, tooFewSlots, badWeights, normalizedOf, slotAt, writtenBy, writtenOf, numberOf, precisionIn}
 use Rattle.normalizer.specs.declared.Normalized.{Normalized}
 use Rattle.normalizer.specs.declared.Normalized.the-variants.{Done, Refused}
-
--- r says that a test b failed
-pub due : (r b : Bool) → r ≡ not b → not r ≡ true → b ≡ true
-due r true e h = refl
-due r false e h = never (sym h ∙ ap not e)
-
-pub clear : (r b : Bool) → r ≡ not b → not r ≡ false → b ≡ false
-clear r true e h = never (sym (ap not e) ∙ h)
-clear r false e h = refl
 
 pub precision-small : (store : Store) (weights : List Float) → 1 ≤ store .bits → store .bits ≤ 46 → precision store weights < 46
 unfolding precision

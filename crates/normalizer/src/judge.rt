@@ -3,13 +3,13 @@ ghost use mathlib.Core.Path.{_≡_};
 ghost use Prim.Native.Nat.{_<_, _≤_, _*_};
 ghost use lib.ListN.{length};
 ghost use Rattle.lists.specs.Tab.{any};
-ghost use Rattle.floats.specs.Doubles.{isFinite};
 ghost use Rattle.windows.specs.Set.{layoutOf, setOf, inUse};
 ghost use Rattle.normalizer.specs.Answer.{holds as holdsF, notFinite, unstorable as unstorableF, normalizedOf};
 use crate::Normalized;
 use crate::precision::power;
 use crate::precision::precision;
 use crate::precision::scaled;
+use numbers::finite;
 use refusal::Refusal;
 use windows::Store;
 use windows::set_fits;
@@ -58,14 +58,6 @@ fn some_not_finite(weights: &[f64]) -> bool
         k += 1;
     }
     bad
-}
-
-// Neither NaN nor infinite.
-fn finite(x: f64) -> bool
-    ensures { λ r. ⌜ r ≡ isFinite x ⌝ }
-{
-    let inf = 1.0 / 0.0;
-    (-inf < x) & (x < inf)
 }
 
 // Whether the precision is below 4, or a weight in use leaves its type at it.

@@ -3,7 +3,8 @@
 mod answer;
 mod judge;
 mod precision;
-mod store;
+mod slots16;
+mod slots32;
 
 ghost use mathlib.Core.Path.{_≡_};
 ghost use lib.ListN.{length};
@@ -20,7 +21,7 @@ pub enum Normalized {
     Refused(Refusal),
 }
 
-// the 16-bit store: i16 weights, sums in 32 bits
+// the 16-bit store: i16 weights, sums in 32 bits. Document 01 asks for the two types and their constants; `new` finds a precision without storing a set
 pub struct Normalizer16 {
     pub precision: u32,
 }
@@ -45,7 +46,7 @@ impl Normalizer16 {
     }
 }
 
-// the 32-bit store: i32 weights, sums in 64 bits
+// the 32-bit store: i32 weights, sums in 64 bits; the same
 pub struct Normalizer32 {
     pub precision: u32,
 }
@@ -94,7 +95,7 @@ pub fn normalize16(
     let Normalized::Done(p) = answer else {
         return answer;
     };
-    store::write16(p, window_size, weights, sizes, out);
+    slots16::write16(p, window_size, weights, sizes, out);
     answer
 }
 
@@ -122,6 +123,6 @@ pub fn normalize32(
     let Normalized::Done(p) = answer else {
         return answer;
     };
-    store::write32(p, window_size, weights, sizes, out);
+    slots32::write32(p, window_size, weights, sizes, out);
     answer
 }

@@ -3,6 +3,7 @@ pub mod Sizes
 pub mod NarrowLaws
 pub mod Codes
 pub mod Window
+pub mod AtLeast
 pub mod Ranges
 pub mod Table
 pub mod Sure

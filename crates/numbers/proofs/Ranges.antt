@@ -11,11 +11,12 @@ use lib.Ieee.Fits.{down-pos}
 use lib.Ieee.Back.{unsigned-back}
 use lib.Ieee.Positive.{num, den, den-pos}
 use Rattle.numbers.specs.Whole.{raised, whole, floor, ceil}
+use Rattle.numbers.proofs.AtLeast.{stop-is}
 use Rattle.numbers.proofs.Sizes.{raised-le}
 use Rattle.floats.proofs.Value.{sub-values}
 use Rattle.floats.specs.Within.{Within}
 use Rattle.floats.proofs.Within.{within-value, within-add}
-use Rattle.numbers.specs.Window.{start, stop}
+use Rattle.numbers.specs.Window.{stop}
 use Rattle.numbers.proofs.Window.{floor-cast}
 use Rattle.floats.proofs.Integers.{int, int-within, within-sub}
 use Rattle.floats.proofs.Laws.{round-as}
@@ -123,10 +124,6 @@ half-within i h = within-add (int i) (ofBits binary64 0x3fe0_0000_0000_0000) i 1
     step i h = omega arith
 
 -- ---- the functions' own steps
-pub start-is : (c r : Float) → start c r ≡ toUnsigned 32 (floor binary64 (sub binary64 c r))
-unfolding start
-start-is c r = refl
-
 pub in-floor : (c r y : Float) → Within c (2 ^ 30) → Within r (2 ^ 30) → lt (ofBits binary64 0) (sub binary64 c r) ≡ true → y ≡ floor binary64 (sub binary64 c r) → T (inUnsigned binary64 32 y)
 in-floor c r y C R h e = subst (λ (z : Float). T (inUnsigned binary64 32 z)) (sym e) (floor-in (sub binary64 c r) (2 ^ 30) (lit< tt) (floor-some (sub binary64 c r) (2 ^ 30) (sub-sort c r (2 ^ 30) (2 ^ 30) C R (lit≤ tt)) h))
 
@@ -134,9 +131,7 @@ pub in-ceil : (c r y : Float) → Within c (2 ^ 30) → Within r (2 ^ 30) → y 
 in-ceil c r y C R e = subst (λ (z : Float). T (inUnsigned binary64 32 z)) (sym e) (ceil-in (add binary64 c r) (2 ^ 30 + 2 ^ 30) (lit< tt) (within-add c r (2 ^ 30) (2 ^ 30) C R (lit≤ tt)))
 
 pub stop-low : (side : ℕ) (c r y : Float) → y ≡ ceil binary64 (add binary64 c r) → toUnsigned 32 y < side → toUnsigned 32 y ≡ stop side c r
-unfolding stop
-stop-low side c r y e h = sym (ap (λ (z : Float). min (toUnsigned 32 z) side) (sym e) ∙ min-eq-left (le-of-lt h))
+stop-low side c r y e h = sym (stop-is side c r ∙ ap (λ (z : Float). min (toUnsigned 32 z) side) (sym e) ∙ min-eq-left (le-of-lt h))
 
 pub stop-high : (side : ℕ) (c r y : Float) → y ≡ ceil binary64 (add binary64 c r) → side ≤ toUnsigned 32 y → side ≡ stop side c r
-unfolding stop
-stop-high side c r y e h = sym (ap (λ (z : Float). min (toUnsigned 32 z) side) (sym e) ∙ min-eq-right h)
+stop-high side c r y e h = sym (stop-is side c r ∙ ap (λ (z : Float). min (toUnsigned 32 z) side) (sym e) ∙ min-eq-right h)

@@ -12,6 +12,7 @@ use lib.Ieee.Back.{unsigned-back}
 use lib.Ieee.Positive.{num, den, den-pos}
 use Rattle.numbers.specs.Whole.{raised, whole, floor, ceil}
 use Rattle.floats.proofs.Value.{sub-values}
+use Rattle.numbers.proofs.AtLeast.{start-is, stop-is}
 use Rattle.numbers.proofs.Sizes.{raised-le}
 use Rattle.floats.specs.Within.{Within}
 use Rattle.floats.proofs.Within.{within-value, round-within, round-above, unlike-signs, within-add}
@@ -103,7 +104,7 @@ start-ge-cut c r B N C R n = go (leb B F) (leb→le B F) (nleb→lt B F)
 
 -- ---- the theorem
 pub range-fits-window : (side : ℕ) (c r : Float) → Within c (2 ^ 30) → Within r (2 ^ 30) → stop side c r - start c r ≤ window r
-unfolding start stop window
+unfolding window
 range-fits-window side c r C R =
     let v = within-value c (2 ^ 30) C in
     let w = within-value r (2 ^ 30) R in
@@ -116,4 +117,4 @@ range-fits-window side c r C R =
     let lo : F - B ≤ toUnsigned 32 (floor binary64 (sub binary64 c r)) = start-ge-cut c r B (2 ^ 30) C (within-raised r (2 ^ 30) R) (lit≤ tt) in
     let n : A ≤ F + 1 = raised-near (num c) (den c) (den-pos c) in
     let e : toUnsigned 32 (ceil binary64 r) ≡ B = ceil-cast r (2 ^ 30) (lit< tt) R in
-    omega arith
+    rw (start-is c r, stop-is side c r) (omega arith)

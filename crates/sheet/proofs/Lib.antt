@@ -2,3 +2,4 @@ pub mod SheetLaws
 pub mod WriterLaws
 pub mod Sure
 pub mod Example
+pub mod Rows

@@ -1,4 +1,5 @@
 // The windows' lines of the 32-bit store.
+use crate::keys;
 use crate::parts::put_item;
 use crate::parts::put_open;
 use text::put_byte;
@@ -46,7 +47,7 @@ pub(crate) fn put_windows32(
         let size = sizes[i];
         let a = put_open(i as u64, starts[i], size, p, out);
         let b = put_weights32(weights, from, size, a, out);
-        p = put_byte(b'\n', b, out);
+        p = put_byte(keys::NEWLINE, b, out);
         from += window;
         i += 1;
     }

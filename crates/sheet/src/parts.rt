@@ -19,10 +19,10 @@ fn put_kind(kind: FilterType, at: usize, out: &mut [u8]) -> usize
     ensures written { λ _. ⌜ now (out .exit) ≡ laid (now (out .entry)) at (kindName kind) ⌝ }
 {
     match kind {
-        FilterType::Box => put(b"box", at, out),
-        FilterType::Bilinear => put(b"bilinear", at, out),
-        FilterType::CatmullRom => put(b"catmullrom", at, out),
-        FilterType::Mitchell => put(b"mitchell", at, out),
+        FilterType::Box => put(&keys::BOX, at, out),
+        FilterType::Bilinear => put(&keys::BILINEAR, at, out),
+        FilterType::CatmullRom => put(&keys::CATMULL_ROM, at, out),
+        FilterType::Mitchell => put(&keys::MITCHELL, at, out),
     }
 }
 
@@ -33,7 +33,7 @@ fn put_kind_line(kind: FilterType, at: usize, out: &mut [u8]) -> usize
 {
     let a = put(&keys::KIND, at, out);
     let b = put_kind(kind, a, out);
-    put_byte(b'\n', b, out)
+    put_byte(keys::NEWLINE, b, out)
 }
 
 // The lines of the two sides and of the window size.
@@ -82,7 +82,7 @@ pub(crate) fn put_item(j: usize, v: i64, at: usize, out: &mut [u8]) -> usize
     if j == 0 {
         return put_signed(v, at, out);
     }
-    let p = put_byte(b',', at, out);
+    let p = put_byte(keys::SEPARATOR, at, out);
     put_signed(v, p, out)
 }
 
@@ -94,5 +94,5 @@ pub(crate) fn put_open(i: u64, start: u32, size: u32, at: usize, out: &mut [u8])
     let a = put_field(&keys::LINE, i, at, out);
     let b = put_field(&keys::EQUALS, start as u64, a, out);
     let c = put_field(&keys::COMMA, size as u64, b, out);
-    put_byte(b':', c, out)
+    put_byte(keys::COLON, c, out)
 }

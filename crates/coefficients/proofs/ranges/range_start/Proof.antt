@@ -3,7 +3,8 @@ use mathlib.Core.Path.{sym, ap, _∙_}
 use Prim.Native.Nat.{_^_}
 use lib.Dec.{lit<, lit≤}
 use lib.Ieee.{binary64, sub, toUnsigned}
-use Rattle.numbers.proofs.Ranges.{floor-none, sub-sort, in-floor, start-is}
+use Rattle.numbers.proofs.Ranges.{floor-none, sub-sort, in-floor}
+use Rattle.numbers.proofs.AtLeast.{start-is}
 use borrow.Author.Needs.{needs}
 use Rattle.coefficients.proofs.ranges.range_start.Statement.{statement}
 use Rattle.coefficients.proofs.ranges.range_start.Tie as tie

@@ -1,6 +1,6 @@
 -- `write32`: after k turns the first k slots are written. Assumes nothing.
-use Rattle.normalizer.proofs.store.write32.Statement.{statement}
-use Rattle.normalizer.proofs.store.write32.Tie as tie
+use Rattle.normalizer.proofs.slots32.write32.Statement.{statement}
+use Rattle.normalizer.proofs.slots32.write32.Tie as tie
 use borrow.Author.Needs.{needs}
 use native.Mathlib.Omega.{arith}
 use mathlib.Core.Path.{_≡_, ap, _∙_}

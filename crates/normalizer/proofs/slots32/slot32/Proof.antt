@@ -1,7 +1,7 @@
 -- `slot32`: a scaled weight that the type holds is cut to itself by the library's truncation, and fits. Assumes nothing.
 use borrow.Author.Needs.{needs}
-use Rattle.normalizer.proofs.store.slot32.Statement.{statement}
-use Rattle.normalizer.proofs.store.slot32.Tie as tie
+use Rattle.normalizer.proofs.slots32.slot32.Statement.{statement}
+use Rattle.normalizer.proofs.slots32.slot32.Tie as tie
 use mathlib.Core.Path.{refl, ap, _∙_}
 use Rattle.normalizer.proofs.Casts.{held, in-type}
 use lib.Dec.{lit≤}

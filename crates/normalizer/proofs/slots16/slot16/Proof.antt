@@ -1,7 +1,7 @@
 -- `slot16`: a scaled weight that the type holds is cut to itself by the library's truncation, and fits. Assumes nothing.
 use borrow.Author.Needs.{needs}
-use Rattle.normalizer.proofs.store.slot16.Statement.{statement}
-use Rattle.normalizer.proofs.store.slot16.Tie as tie
+use Rattle.normalizer.proofs.slots16.slot16.Statement.{statement}
+use Rattle.normalizer.proofs.slots16.slot16.Tie as tie
 use mathlib.Core.Path.{refl, ap, _∙_}
 use Rattle.normalizer.proofs.Casts.{held, in-type}
 use lib.Dec.{lit≤}
