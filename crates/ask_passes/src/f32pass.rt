@@ -7,7 +7,7 @@ use asking::Words;
 use asking::f32s;
 use asking::fields;
 use telling::emit;
-use vertical::Passed;
+use vertical::PassedF32;
 
 // The line's answer.
 pub(crate) fn answer(line: &[u8], w: Words, n: usize, out: &mut [u8]) -> usize {
@@ -72,10 +72,12 @@ fn pass(
     f32s::fill(lent);
     let answer = vertical_f32::vert_convolution_f32(
         samples,
-        f.lines,
-        f.row,
-        f.first,
-        f.count,
+        vertical::Frame {
+            lines: f.lines,
+            row: f.row,
+            first: f.first,
+            count: f.count,
+        },
         weights,
         starts,
         sizes,
@@ -86,8 +88,8 @@ fn pass(
 }
 
 // The number and the output.
-fn show(answer: Passed, lent: &[f32], n: usize, out: &mut [u8]) -> usize {
-    let p = emit::whole(frame::passed_number(answer), n, out);
+fn show(answer: PassedF32, lent: &[f32], n: usize, out: &mut [u8]) -> usize {
+    let p = emit::whole(answer.number(), n, out);
     let q = emit::byte(b' ', p, out);
     telling::f32s::show(lent, q, out)
 }

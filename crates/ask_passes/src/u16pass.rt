@@ -80,10 +80,12 @@ fn pass(
     u16s::fill(lent);
     let answer = vertical_u16::vert_convolution_u16(
         samples,
-        f.lines,
-        f.row,
-        f.first,
-        f.count,
+        vertical::Frame {
+            lines: f.lines,
+            row: f.row,
+            first: f.first,
+            count: f.count,
+        },
         weights,
         starts,
         sizes,
