@@ -1,6 +1,7 @@
 /* driver CASE SIDE RUNS: runs one function RUNS times on inputs that depend on the case alone, and says what it wrote.
  * SIDE is `rust` (the given Rust, given.rs) or `port` (the static library, mirror.h). A function that the library does not have
- * is answered by `missing`. Cases: multiply, multiply_in, divide, divide_in; u16 or f32 with taps 4, 8, 16; build, norm16, norm32. */
+ * is answered by `missing`. Cases: multiply, multiply_in, divide, divide_in; u16_N or f32_N for windows of N lines, u16_N_C for frames of C columns; build, norm16,
+ * norm32. */
 #include <inttypes.h>
 #include <stdio.h>
 #include <stdlib.h>
@@ -29,7 +30,7 @@ extern struct job *given_normalize(uint32_t bits, uint32_t kind, uint32_t side, 
 extern uint32_t given_set(uint32_t kind, uint32_t side, uint32_t out, double *, uint32_t *, uint32_t *);
 extern uint32_t given_integers(uint32_t kind, uint32_t side, uint32_t out, int32_t *);
 
-enum { ROW = 1920, PIXELS = 65536, SLOTS = 1 << 20, ROOM = 1 << 24 };
+enum { COLUMNS = 1920, PIXELS = 65536, SLOTS = 1 << 20, ROOM = 1 << 24 };
 
 static uint8_t written[ROOM];
 static double slots[SLOTS];
@@ -94,19 +95,26 @@ static void alpha(const char *name, int port, int runs)
     end(length, PIXELS, no);
 }
 
-/* A whole side, adapting, by filter and sides: 4, 8 and 16 lines a window. */
+/* A whole side, adapting, by filter and sides: windows of so many lines. */
 static void shape(int taps, uint32_t *kind, uint32_t *side, uint32_t *out)
 {
-    *kind = taps == 4 ? MIRROR_BILINEAR : MIRROR_CATMULLROM;
-    *side = 128;
-    *out = taps == 16 ? 32 : 64;
+    static const struct { int taps; uint32_t kind, side, out; } shapes[] = {
+        {2, MIRROR_BILINEAR, 64, 128},     {4, MIRROR_BILINEAR, 128, 64},     {8, MIRROR_CATMULLROM, 128, 64},    {16, MIRROR_CATMULLROM, 128, 32},
+        {32, MIRROR_CATMULLROM, 512, 64},  {33, MIRROR_CATMULLROM, 528, 64},  {64, MIRROR_CATMULLROM, 1024, 64},
+    };
+    for (size_t i = 0; i < sizeof shapes / sizeof *shapes; i++)
+        if (shapes[i].taps == taps) {
+            *kind = shapes[i].kind, *side = shapes[i].side, *out = shapes[i].out;
+            return;
+        }
+    exit(2);
 }
 
-static void pass(int floats, int taps, int port, int runs)
+static void pass(int floats, int taps, uint32_t row, int port, int runs)
 {
     uint32_t kind, side, out, no = 0;
     shape(taps, &kind, &side, &out);
-    size_t samples = (size_t)side * ROW, items = (size_t)out * ROW;
+    size_t samples = (size_t)side * row, items = (size_t)out * row;
     uint16_t *whole = malloc(samples * 2);
     float *real = malloc(samples * 4);
     for (size_t i = 0; i < samples; i++) {
@@ -114,16 +122,16 @@ static void pass(int floats, int taps, int port, int runs)
         real[i] = (float)whole[i] / 65535.0f;
     }
     if (!port)
-        given(floats ? given_f32(kind, side, out, ROW, real) : given_u16(kind, side, out, ROW, whole), runs, items);
+        given(floats ? given_f32(kind, side, out, row, real) : given_u16(kind, side, out, row, whole), runs, items);
     missing_if(floats ? !mirror_vertical_f32 : !mirror_vertical_u16);
     uint32_t window = given_set(kind, side, out, slots, starts, sizes);
     uint32_t precision = given_integers(kind, side, out, weights);
     size_t count = (size_t)window * out;
     for (int i = 0; i < runs; i++) {
         if (floats)
-            no = mirror_vertical_f32(real, samples, side, ROW, 0, ROW, slots, count, starts, out, sizes, out, window, (float *)written, items);
+            no = mirror_vertical_f32(real, samples, side, row, 0, row, slots, count, starts, out, sizes, out, window, (float *)written, items);
         else
-            no = mirror_vertical_u16(whole, samples, side, ROW, 0, ROW, weights, count, starts, out, sizes, out, window, precision,
+            no = mirror_vertical_u16(whole, samples, side, row, 0, row, weights, count, starts, out, sizes, out, window, precision,
                                      (uint16_t *)written, items);
     }
     end(items * (floats ? 4 : 2), items, no);
@@ -168,13 +176,13 @@ int main(int argc, char **argv)
     if (argc != 4)
         return 2;
     const char *name = argv[1];
-    int port = strcmp(argv[2], "port") == 0, runs = atoi(argv[3]), taps;
+    int port = strcmp(argv[2], "port") == 0, runs = atoi(argv[3]), taps, columns = COLUMNS;
     if (strncmp(name, "multiply", 8) == 0 || strncmp(name, "divide", 6) == 0)
         alpha(name, port, runs);
-    if (sscanf(name, "u16_%d", &taps) == 1)
-        pass(0, taps, port, runs);
-    if (sscanf(name, "f32_%d", &taps) == 1)
-        pass(1, taps, port, runs);
+    if (sscanf(name, "u16_%d_%d", &taps, &columns) >= 1)
+        pass(0, taps, (uint32_t)columns, port, runs);
+    if (sscanf(name, "f32_%d_%d", &taps, &columns) >= 1)
+        pass(1, taps, (uint32_t)columns, port, runs);
     if (strcmp(name, "build_box") == 0)
         build(MIRROR_BOX, 1080, 270, port, runs);
     if (strcmp(name, "build_catmullrom") == 0)

@@ -5,6 +5,7 @@ use request_fields::f32s;
 use request_fields::f64s;
 use request_fields::fields;
 use request_fields::u32s;
+use vertical::Frame;
 
 // The line's answer.
 pub(crate) fn of_line(
@@ -76,10 +77,12 @@ fn pass(
 ) -> Said {
     let answer = vertical_f32::vert_convolution_f32(
         samples,
-        fields::whole(line, 1),
-        fields::whole(line, 2),
-        fields::whole(line, 3),
-        fields::whole(line, 4),
+        Frame {
+            lines: fields::whole(line, 1),
+            row: fields::whole(line, 2),
+            first: fields::whole(line, 3),
+            count: fields::whole(line, 4),
+        },
         weights,
         starts,
         sizes,

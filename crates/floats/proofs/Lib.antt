@@ -10,3 +10,5 @@ pub mod Digits
 pub mod Codes
 pub mod Doubles
 pub mod Error
+pub mod Halves
+pub mod Far

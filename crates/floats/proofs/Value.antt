@@ -1,10 +1,10 @@
--- The operations and comparisons of finite floats by any fractions that their values equal. Every other law on values starts by rewriting with these.
--- Assumes nothing.
+-- The operations and comparisons of finite floats by any fractions that their values equal, and the larger and the smaller of two. Every other law on values
+-- starts by rewriting with these. Assumes nothing.
 use mathlib.Core.Path.{_≡_, refl, sym, ap, _∙_, subst}
 use mathlib.Core.Bool.{Bool, true, false, not, _&&_, _||_, Bool·beq, cond}
 use mathlib.Core.Logic.{_⊎_, inl, inr}
-use Prim.Native.Nat.{ℕ, _+_, _-_, _*_, _≤_, _<_}
-use native.Mathlib.Nat.{lt-of-mul-lt-mul-right, mul-lt-mul-of-pos-right, zero-mul, mul-assoc, mul-comm, mul-left-comm, add-mul, mul-pos, mul-sub, mul-mul-mul-comm, le-of-eq, le-of-lt, eq-or-lt-of-le}
+use Prim.Native.Nat.{ℕ, _+_, _-_, _*_, _≤_, _<_, min}
+use native.Mathlib.Nat.{lt-of-mul-lt-mul-right, mul-lt-mul-of-pos-right, zero-mul, mul-assoc, mul-comm, mul-left-comm, mul-right-comm, add-mul, mul-pos, mul-sub, mul-mul-mul-comm, le-of-eq, le-of-lt, le-of-mul-le-mul-right, eq-of-mul-eq-mul-right, eq-or-lt-of-le}
 use native.Mathlib.Omega.{arith}
 use lib.IntN.{ℤ}
 use lib.Dec.{T, ltb, leb, eqb, ltb→lt, lt→ltb, leb→le, eqb→eq, not-T, le→leb}
@@ -14,6 +14,7 @@ use lib.Ieee.Exact.{HasValue}
 use lib.Ieee.Scale.{round-same}
 use lib.Ieee.Positive.{first-pos}
 use lib.Ieee.Bits.{cond-no}
+use borrow.Author.Tests.{ltb-true, ltb-false}
 use Rattle.lists.proofs.BoolLaws.{or-first}
 
 pub same-test : (a b : Bool) → (T a → T b) → (T b → T a) → a ≡ b
@@ -164,3 +165,40 @@ or-le a b = same-test (ltb a b || (eqb a b && true)) (leb a b) (λ t. le→leb a
     two : (a ≡ b) ⊎ (a < b) → T (ltb a b || (eqb a b && true))
     two (inl e) = right-or (ltb a b) (eqb a b) (eq→eqb e)
     two (inr l) = or-first (ltb a b) (eqb a b && true) (lt→ltb a b l)
+
+-- ---- from one fraction to another of the same size
+pub rescale : (x : Float) (s : Bool) (a c b d : ℕ) → 0 < c → b * c ≡ a * d → HasValue x s a c → HasValue x s b d
+rescale nan s a c b d C h v = v
+rescale (inf t) s a c b d C h v = v
+rescale (fin t m e) s a c b d C h v = (
+  v .0,
+  eq-of-mul-eq-mul-right c C (m * up e * d) (b * down e)
+      (mul-right-comm (m * up e) d c ∙ ap (λ (x : ℕ). x * d) (v .1) ∙ mul-right-comm a (down e) d ∙ ap (λ (x : ℕ). x * down e) (sym h) ∙ mul-right-comm b c (down e)),
+)
+
+-- ---- the larger and the smaller of two numbers that are not negative
+pub larger : (x y : Float) (a b c : ℕ) → 0 < c → HasValue x false a c → HasValue y false b c → HasValue (cond (lt x y) y x) false (a + (b - a)) c
+larger x y a b c C v w = subst (λ (d : Bool). HasValue (cond d y x) false (a + (b - a)) c) (sym (lt-values x y false false a c b c C C v w)) (go (ltb (a * c) (b * c)) refl)
+  where
+    more : (a b : ℕ) → a < b → a + (b - a) ≡ b
+    more a b h = omega arith
+
+    less : (a b : ℕ) → b ≤ a → a + (b - a) ≡ a
+    less a b h = omega arith
+
+    go : (d : Bool) → ltb (a * c) (b * c) ≡ d → HasValue (cond d y x) false (a + (b - a)) c
+    go true e = subst (λ (k : ℕ). HasValue y false k c) (sym (more a b (lt-of-mul-lt-mul-right c (ltb-true (a * c) (b * c) e)))) w
+    go false e = subst (λ (k : ℕ). HasValue x false k c) (sym (less a b (le-of-mul-le-mul-right (ltb-false (a * c) (b * c) e) C))) v
+
+pub smaller : (x y : Float) (a b c : ℕ) → 0 < c → HasValue x false a c → HasValue y false b c → HasValue (cond (lt x y) x y) false (min a b) c
+smaller x y a b c C v w = subst (λ (d : Bool). HasValue (cond d x y) false (min a b) c) (sym (lt-values x y false false a c b c C C v w)) (go (ltb (a * c) (b * c)) refl)
+  where
+    less : (a b : ℕ) → a < b → min a b ≡ a
+    less a b h = omega arith
+
+    more : (a b : ℕ) → b ≤ a → min a b ≡ b
+    more a b h = omega arith
+
+    go : (d : Bool) → ltb (a * c) (b * c) ≡ d → HasValue (cond d x y) false (min a b) c
+    go true e = subst (λ (k : ℕ). HasValue x false k c) (sym (less a b (lt-of-mul-lt-mul-right c (ltb-true (a * c) (b * c) e)))) v
+    go false e = subst (λ (k : ℕ). HasValue y false k c) (sym (more a b (le-of-mul-le-mul-right (ltb-false (a * c) (b * c) e) C))) w

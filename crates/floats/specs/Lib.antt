@@ -1,2 +1,3 @@
 pub mod Within
 pub mod Doubles
+pub mod Halves

@@ -3,8 +3,10 @@ ghost use mathlib.Core.Path.{_≡_};
 ghost use lib.ListN.{length};
 ghost use Rattle.windows.specs.Set.{layoutOf, setOf, storedOf};
 ghost use Rattle.vertical.specs.Passed.{numberOf};
-ghost use Rattle.vertical.specs.F32.{passed32, written32};
-ghost use Rattle.vertical.specs.U16.{passed16, written16};
+ghost use Rattle.vertical.specs.PassedF32.{numberOf as numberOfF32};
+ghost use Rattle.vertical.specs.F32.{passedF32, writtenF32};
+ghost use Rattle.vertical.specs.U16.{passedU16, writtenU16};
+use vertical::Frame;
 
 // The value of every window at every column of the range, u16 samples: 0, No. 1 or No. 10.
 #[no_mangle]
@@ -21,15 +23,17 @@ pub extern "C" fn mirror_vertical_u16(
     precision: u32,
     out: &mut [u16],
 ) -> u32
-    ensures answer { λ r. ⌜ r ≡ numberOf (passed16 (storedOf (setOf (layoutOf lines window (now (starts .entry)) (now (sizes .entry))) (now (weights .entry))) precision) (now (src .entry)) row first count (length (now (out .entry)))) ⌝ }
-    ensures written { λ _. ⌜ now (out .exit) ≡ written16 (storedOf (setOf (layoutOf lines window (now (starts .entry)) (now (sizes .entry))) (now (weights .entry))) precision) (now (src .entry)) row first count (now (out .entry)) ⌝ }
+    ensures answer { λ r. ⌜ r ≡ numberOf (passedU16 (storedOf (setOf (layoutOf lines window (now (starts .entry)) (now (sizes .entry))) (now (weights .entry))) precision) (length (now (src .entry))) row first count (length (now (out .entry)))) ⌝ }
+    ensures written { λ _. ⌜ now (out .exit) ≡ writtenU16 (storedOf (setOf (layoutOf lines window (now (starts .entry)) (now (sizes .entry))) (now (weights .entry))) precision) (now (src .entry)) row first count (now (out .entry)) ⌝ }
 {
     vertical_u16::vert_convolution_u16(
         src,
-        lines,
-        row,
-        first,
-        count,
+        Frame {
+            lines: lines,
+            row: row,
+            first: first,
+            count: count,
+        },
         weights,
         starts,
         sizes,
@@ -53,15 +57,17 @@ pub extern "C" fn mirror_vertical_f32(
     window: u32,
     out: &mut [f32],
 ) -> u32
-    ensures answer { λ r. ⌜ r ≡ numberOf (passed32 (setOf (layoutOf lines window (now (starts .entry)) (now (sizes .entry))) (now (weights .entry))) (now (src .entry)) row first count (length (now (out .entry)))) ⌝ }
-    ensures written { λ _. ⌜ now (out .exit) ≡ written32 (setOf (layoutOf lines window (now (starts .entry)) (now (sizes .entry))) (now (weights .entry))) (now (src .entry)) row first count (now (out .entry)) ⌝ }
+    ensures answer { λ r. ⌜ r ≡ numberOfF32 (passedF32 (setOf (layoutOf lines window (now (starts .entry)) (now (sizes .entry))) (now (weights .entry))) (now (src .entry)) row first count (length (now (out .entry)))) ⌝ }
+    ensures written { λ _. ⌜ now (out .exit) ≡ writtenF32 (setOf (layoutOf lines window (now (starts .entry)) (now (sizes .entry))) (now (weights .entry))) (now (src .entry)) row first count (now (out .entry)) ⌝ }
 {
     vertical_f32::vert_convolution_f32(
         src,
-        lines,
-        row,
-        first,
-        count,
+        Frame {
+            lines: lines,
+            row: row,
+            first: first,
+            count: count,
+        },
         weights,
         starts,
         sizes,

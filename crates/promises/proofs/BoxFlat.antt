@@ -13,7 +13,7 @@ use Rattle.coefficients.specs.declared.Built.the-variants.{Done}
 use Rattle.coefficients.specs.Answer.{windowOf}
 use Rattle.coefficients.specs.Request.{builtOf}
 use Rattle.normalizer.specs.Answer.{precisionIn}
-use Rattle.vertical.specs.U16.{written16}
+use Rattle.vertical.specs.U16.{writtenU16}
 use Rattle.promises.specs.FlatFrames.{NearOne}
 use Rattle.promises.specs.BoxKeepsFlat.{built, normal, stored, Accepted, BoxPremise, BoxFlat}
 use Rattle.promises.proofs.Accepted.{built-done, normalized-done}
@@ -40,5 +40,5 @@ pub box-flat : BoxFlat
 box-flat q lines ws ss zs out ok src row first count old v done top flat =
     let s = stored q lines ws ss zs out in
     let l = long q lines ws ss zs out ok in
-    subst (λ (m : ℕ). written16 s src row first count old ≡ tab 0 (m * count) (λ k. v)) l
+    subst (λ (m : ℕ). writtenU16 s src row first count old ≡ tab 0 (m * count) (λ k. v)) l
     (flat-frame s src row first count old v done top flat (λ i h. premise q lines ws ss zs out ok i (lt-of-lt-of-le h (le-of-eq l))))

@@ -183,4 +183,4 @@ module _ (q : Request) (lines : ℕ) (ws : List Float) (ss zs : List ℕ) (w : �
         let K = each n P some many (exact .1) in
         let all : sum (λ k. getD (held .set .weights) (i * w + k) (pos 0)) n ≡ pos (K * n) =
         sum-ext (λ k. getD (held .set .weights) (i * w + k) (pos 0)) (λ k. pos K) n stored-at ∙ sum-equal K n in
-        rw (size-is, all, distance-pos (K * n) (2 ^ P)) (box n P some many (exact .0) (exact .1))
+        lt-ltb _ _ (rw (size-is, all, distance-pos (K * n) (2 ^ P)) (box n P some many (exact .0) (exact .1)))

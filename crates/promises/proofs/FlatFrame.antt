@@ -1,51 +1,92 @@
--- The proof of `FlatFrame`: a pass that did not refuse has all its windows inside the frame, so every sample in use is v, and `flat-unchanged` gives each value.
--- Assumes nothing.
-use mathlib.Core.Path.{_≡_, refl}
-use Prim.Native.Nat.{ℕ, _+_, _*_, _/_, _%_, _<_}
+-- The proofs of `FlatRow` and `FlatFrame`: a pass that did not refuse has all its windows inside the frame, so every sample in use is v, and `flat-unchanged` gives
+-- each value of a window that meets the premise; a frame whose rows are flat is flat. Assumes nothing.
+use mathlib.Core.Path.{_≡_, refl, sym, ap, _∙_}
+use mathlib.Core.List.{List}
+use Prim.Native.Nat.{ℕ, _+_, _-_, _*_, _/_, _%_, _^_, _≤_, _<_}
 use native.Mathlib.Nat.{zero-add, mod-lt, div-lt-iff-lt-mul}
 use native.Mathlib.Omega.{arith}
 use lib.Arith.{digits-lt}
 use lib.IntN.{pos}
-use lib.ListN.{length}
-use Rattle.lists.specs.Tab.{grid}
-use Rattle.lists.proofs.TabLaws.{tab-ext}
+use lib.ListN.{length, getD, take, drop}
+use lib.Seq.{take-at, drop-at}
+use borrow.Author.Tests.{ltb-true}
+use Rattle.lists.specs.Tab.{tab, grid}
+use Rattle.lists.proofs.TabLaws.{length-tab, getD-tab, tab-ext, tab-add, tab-row, row-end}
 use Rattle.lists.proofs.RangeLaws.{InRange, not-outside}
 use Rattle.integers.proofs.Sums.{total-ext}
-use Rattle.windows.specs.Set.{windows, start, size, weight, sample}
-use Rattle.vertical.specs.declared.Passed.the-variants.{Done}
-use Rattle.vertical.specs.Frame.{frame}
-use Rattle.vertical.specs.U16.{passed16, written16, valueAt}
-use Rattle.vertical.proofs.Answers.{Tests16, tests16, Shaped, shaped}
+use Rattle.windows.specs.Set.{Stored, windows, start, size, weight, sample, distanceOf}
+use Rattle.vertical.specs.Frame.{frame, output, rowOf}
+use Rattle.vertical.specs.Passed.{numberOf}
+use Rattle.vertical.specs.U16.{passedU16, writtenU16, valueAt}
+use Rattle.vertical.proofs.Answers.{TestsU16, tests-u16, Shaped, shaped}
 use Rattle.vertical.proofs.Columns.{some-column}
-use Rattle.promises.specs.FlatFrames.{FlatFrame}
+use Rattle.promises.specs.FlatFrames.{NearOne, Flat, FlatRow, FlatFrame}
 use Rattle.promises.proofs.Accepted.{passed-done}
 use Rattle.promises.proofs.Frames.{flat-unchanged}
 
+-- row i of an output is window i at each column
+row-of-output : {A : Type 0} (at : ℕ → ℕ → A) (n first count i : ℕ) → i < n → rowOf count i (output at n first count) ≡ tab 0 count (λ j. at i (first + j))
+row-of-output at n first count i h =
+    let cell = λ i j. at i (first + j) in
+    let rest = n * count - (i * count + count) in
+    let e : n * count ≡ i * count + (count + rest) = omega (arith, row-end i n count h) in
+    ap (λ m. take count (drop (i * count) (tab 0 m (grid count cell)))) e
+    ∙ ap (λ l. take count (drop (i * count) l)) (tab-add 0 (i * count) (count + rest) (grid count cell))
+    ∙ ap (take count) (drop-at (tab 0 (i * count) (grid count cell)) (tab (0 + i * count) (count + rest) (grid count cell)) (i * count) (length-tab 0 (i * count) (grid count cell)))
+    ∙ ap (take count) (tab-add (0 + i * count) count rest (grid count cell))
+    ∙ take-at (tab (0 + i * count) count (grid count cell)) (tab (0 + i * count + count) rest (grid count cell)) count (length-tab (0 + i * count) count (grid count cell))
+    ∙ ap (λ m. tab m count (grid count cell)) (zero-add (i * count))
+    ∙ tab-row count cell i
+
+-- ---- a pass that did not refuse
+module _ (s : Stored) (samples row first count room : ℕ) (none : numberOf (passedU16 s samples row first count room) ≡ 0) where
+  tests : TestsU16 s samples row first count room
+  tests = tests-u16 s samples row first count room (passed-done (passedU16 s samples row first count room) none)
+
+  pub fits : Shaped (s .set) samples row first count room
+  fits = shaped (s .set) samples row first count room (tests .size) (tests .shape)
+
+  pub precise : InRange 4 45 (s .precision)
+  precise = not-outside 4 45 (s .precision) (tests .precision)
+
+  -- the sample of line k of window i at column j of the range is there
+  pub inside : (i j k : ℕ) → i < windows (s .set .layout) → j < count → k < size (s .set .layout) i → (start (s .set .layout) i + k) * row + (first + j) < samples
+  inside i j k hi hj hk = let ends = fits .set .ends i hi in rw (fits .whole) (digits-lt (omega (arith, ends)) (omega (arith, fits .fit)))
+
+module _ (s : Stored) (src : List ℕ) (row first count : ℕ) (old : List ℕ) (none : numberOf (passedU16 s (length src) row first count (length old)) ≡ 0) where
+  pub written : writtenU16 s src row first count old ≡ output (valueAt 65535 s (frame 0 src row)) (windows (s .set .layout)) first count
+  unfolding writtenU16
+  written = rw (passed-done (passedU16 s (length src) row first count (length old)) none)
+
+  -- a window that meets the premise, at a column of a flat frame
+  here : (v : ℕ) → v ≤ 65535 → Flat v src → (i j : ℕ) → i < windows (s .set .layout) → j < count → NearOne s i → valueAt 65535 s (frame 0 src row) i (first + j) ≡ v
+  here v top flat i j hi hj near =
+      let at : (k : ℕ) → k < size (s .set .layout) i → sample (s .set .layout) (frame 0 src row) i (first + j) k ≡ v =
+      λ k l. flat ((start (s .set .layout) i + k) * row + (first + j)) (inside s (length src) row first count (length old) none i j k hi hj l) in
+      rw (total-ext (weight (s .set) (pos 0) i) (weight (s .set) (pos 0) i) (sample (s .set .layout) (frame 0 src row) i (first + j)) (λ k. v) (size (s .set .layout) i) (λ k l. refl) at)
+      (flat-unchanged (weight (s .set) (pos 0) i) (size (s .set .layout) i) 65535 (s .precision) v (omega (arith, precise s (length src) row first count (length old) none .least))
+      (ltb-true (2 * 65535 * distanceOf s i) (2 ^ s .precision) near) top)
+
+pub flat-row : FlatRow
+flat-row s src row first count old v none top flat i hi near =
+    ap (rowOf count i) (written s src row first count old none)
+    ∙ row-of-output (valueAt 65535 s (frame 0 src row)) (windows (s .set .layout)) first count i hi
+    ∙ tab-ext 0 count (λ j. valueAt 65535 s (frame 0 src row) i (first + j)) (λ j. v) (λ j h. rw zero-add (here s src row first count old none v top flat i j hi h near))
+
+-- every row is flat, so the frame is
 pub flat-frame : FlatFrame
-unfolding written16
 flat-frame s src row first count old v none top flat near =
-    rw done
-    (tab-ext 0 (windows (s .set .layout) * count) (grid count (λ i j. valueAt 65535 s (frame 0 src row) i (first + j))) (λ k. v)
+    written s src row first count old none
+    ∙ tab-ext 0 (windows (s .set .layout) * count) (grid count (λ i j. value i (first + j))) (λ k. v)
     (λ k h.
     let some = some-column (windows (s .set .layout)) count k h in
-    rw zero-add (here (k / count) (k % count) (div-lt-iff-lt-mul some .1 h) (mod-lt k some))))
+    rw zero-add (cell (k / count) (k % count) (div-lt-iff-lt-mul some .1 h) (mod-lt k some)))
   where
-    done : passed16 s src row first count (length old) ≡ Done
-    done = passed-done (passed16 s src row first count (length old)) none
+    value : ℕ → ℕ → ℕ
+    value = valueAt 65535 s (frame 0 src row)
 
-    tests : Tests16 s src row first count (length old)
-    tests = tests16 s src row first count (length old) done
-
-    fits : Shaped (s .set) (length src) row first count (length old)
-    fits = shaped (s .set) (length src) row first count (length old) (tests .size) (tests .shape)
-
-    exact : InRange 4 45 (s .precision)
-    exact = not-outside 4 45 (s .precision) (tests .precision)
-
-    here : (i j : ℕ) → i < windows (s .set .layout) → j < count → valueAt 65535 s (frame 0 src row) i (first + j) ≡ v
-    here i j hi hj =
-        let inside = fits .set .ends i hi in
-        let at : (k : ℕ) → k < size (s .set .layout) i → sample (s .set .layout) (frame 0 src row) i (first + j) k ≡ v =
-        λ k l. flat ((start (s .set .layout) i + k) * row + (first + j)) (rw (fits .whole) (digits-lt (omega (arith, inside)) (omega (arith, fits .fit)))) in
-        rw (total-ext (weight (s .set) (pos 0) i) (weight (s .set) (pos 0) i) (sample (s .set .layout) (frame 0 src row) i (first + j)) (λ k. v) (size (s .set .layout) i) (λ k l. refl) at)
-        (flat-unchanged (weight (s .set) (pos 0) i) (size (s .set .layout) i) 65535 (s .precision) v (omega (arith, exact .least)) (near i hi) top)
+    cell : (i j : ℕ) → i < windows (s .set .layout) → j < count → value i (first + j) ≡ v
+    cell i j hi hj =
+        sym (getD-tab 0 count (λ j. value i (first + j)) j 0 hj ∙ ap (λ j. value i (first + j)) (zero-add j))
+        ∙ ap (λ l. getD l j 0) (sym (row-of-output value (windows (s .set .layout)) first count i hi) ∙ sym (ap (rowOf count i) (written s src row first count old none)) ∙ flat-row s src row first count old v none top flat i hi (near i hi))
+        ∙ getD-tab 0 count (λ j. v) j 0 hj

@@ -1,4 +1,4 @@
--- The proofs of `SumWithinOne`, `FramesWithinOne` and `FlatUnchanged`: the sum is additive in the samples and three floors stand within 1 of each other; a flat frame's sum is
+-- The proofs of `SumWithinOne` and `FlatUnchanged`: the sum is additive in the samples and three floors stand within 1 of each other; a flat frame's sum is
 -- K v, which is nearer to v 2^P than half of 2^P. Over any sample bound M. Assumes nothing.
 use mathlib.Core.Path.{_≡_}
 use Prim.Native.Nat.{ℕ, _+_, _-_, _*_, _^_, _≤_, _<_}
@@ -9,15 +9,11 @@ use Rattle.integers.specs.Sums.{sum, total, shifted, distance}
 use Rattle.integers.proofs.Parts.{plus, minus, pos-parts, add-parts, scale-parts, distance-parts}
 use Rattle.integers.proofs.Floors.{halves, floor-is, shifted-add, clipped-pos}
 use Rattle.integers.proofs.Sums.{total-add, total-flat}
-use Rattle.windows.specs.Set.{size, weight, sample}
-use Rattle.promises.specs.SumOfFrames.{SumWithinOne, FramesWithinOne}
+use Rattle.promises.specs.SumOfFrames.{SumWithinOne}
 use Rattle.promises.specs.FlatFrames.{FlatUnchanged}
 
 pub sum-within-one : SumWithinOne
 sum-within-one w a b n p h = rw (total-add w a b n) (shifted-add p (total w a n) (total w b n) h)
-
-pub frames-within-one : FramesWithinOne
-frames-within-one s a b i j h = sum-within-one (weight (s .set) (pos 0) i) (sample (s .set .layout) a i j) (sample (s .set .layout) b i j) (size (s .set .layout) i) (s .precision) h
 
 -- K v is nearer to v 2^P than half of 2^P, so it rounds to v
 flat : (K : ℤ) (M P v : ℕ) → 1 ≤ P → 2 * M * distance K (pos (2 ^ P)) < 2 ^ P → v ≤ M → shifted P (K *ℤ pos v) ≡ pos v

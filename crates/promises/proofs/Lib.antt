@@ -1,6 +1,7 @@
 mod Accepted
 pub mod Frames
 pub mod FlatFrame
+pub mod Sums
 pub mod Box
 pub mod BoxFilter
 pub mod BoxWindow
@@ -11,5 +12,6 @@ pub mod BoxPrecision
 pub mod BoxPremise
 pub mod BoxFlat
 pub mod ColumnCuts
+pub mod Refused
 pub mod Restated
 pub mod Table

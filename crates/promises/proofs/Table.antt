@@ -1,12 +1,11 @@
--- The table of fourteen, by computation: here rows 1 to 6 and 10 to 12, in `normalizer` rows 7 to 9, in `numbers` rows 13 and 14. Assumes nothing.
+-- The table of fourteen, by computation: here rows 1 to 6, in `normalizer` rows 7 to 9, in `vertical` rows 10 to 12, in `numbers` rows 13 and 14. Assumes nothing.
 use mathlib.Core.Path.{refl}
-use Rattle.integers.specs.Sums.{sum, shifted, clipped}
 use Rattle.numbers.proofs.Table.{row-13, row-14}
 use Rattle.normalizer.proofs.Table.{row-7, row-8, row-9}
+use Rattle.vertical.proofs.Table.{rows-10-to-12}
 use Rattle.promises.specs.Table.{TableOfFourteen}
 
 pub table-of-fourteen : TableOfFourteen
-unfolding sum shifted clipped
 table-of-fourteen = (
   refl,
   refl,
@@ -17,9 +16,9 @@ table-of-fourteen = (
   row-7,
   row-8,
   row-9,
-  refl,
-  (refl, refl),
-  (refl, refl, refl),
+  rows-10-to-12 .0,
+  rows-10-to-12 .1,
+  rows-10-to-12 .2,
   row-13,
   row-14,
 )

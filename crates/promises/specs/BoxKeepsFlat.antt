@@ -18,7 +18,7 @@ use Rattle.coefficients.specs.Request.{builtOf, weightsOf, startsOf, sizesOf}
 use Rattle.normalizer.specs.declared.Normalized.{Normalized}
 use Rattle.normalizer.specs.Answer.{normalizedOf, writtenOf, numberOf as numberOfNormalized, precisionIn}
 use Rattle.vertical.specs.Passed.{numberOf}
-use Rattle.vertical.specs.U16.{passed16, written16}
+use Rattle.vertical.specs.U16.{passedU16, writtenU16}
 use Rattle.promises.specs.FlatFrames.{NearOne, Flat}
 
 -- the set that the builder leaves in three lent lists, its window size being w: the asked slots, starts and sizes, which are the lists' beginnings
@@ -59,5 +59,5 @@ abbrev pub BoxFlat : Type 0
 BoxFlat =
     (q : Request) (lines : ℕ) (ws : List Float) (ss zs : List ℕ) (out : List ℤ) → Accepted q lines ws ss zs out
     → (src : List ℕ) (row first count : ℕ) (old : List ℕ) (v : ℕ)
-    → numberOf (passed16 (stored q lines ws ss zs out) src row first count (length old)) ≡ 0 → v ≤ 65535 → Flat v src
-    → written16 (stored q lines ws ss zs out) src row first count old ≡ tab 0 (q .output * count) (λ k. v)
+    → numberOf (passedU16 (stored q lines ws ss zs out) (length src) row first count (length old)) ≡ 0 → v ≤ 65535 → Flat v src
+    → writtenU16 (stored q lines ws ss zs out) src row first count old ≡ tab 0 (q .output * count) (λ k. v)

@@ -1,20 +1,17 @@
 -- Document 01's "Table to be proved", row by row, over the definitions that the contracts cite. A statement only. Assumes nothing.
 use mathlib.Core.Path.{_≡_}
 use mathlib.Core.Bool.{Bool, true, false}
-use mathlib.Core.List.{List, [], _∷_}
+use mathlib.Core.List.{[], _∷_}
 use Prim.Native.Nat.{ℕ, _+_, _^_}
-use lib.IntN.{ℤ, pos, negsuc}
-use lib.ListN.{length}
+use lib.IntN.{pos, negsuc}
 use lib.Ieee.{Float, fin, binary64}
 use Rattle.floats.specs.Doubles.{double, _over_}
 use Rattle.integers.specs.Sums.{sum}
 use Rattle.numbers.specs.Whole.{roundAway, narrow}
 use Rattle.alpha.specs.Alpha.{multiplied, divided}
-use Rattle.windows.specs.Set.{layoutOf, setOf, storedOf}
 use Rattle.windows.specs.Store.{store16, store32}
 use Rattle.normalizer.specs.Precision.{precision, integer}
-use Rattle.vertical.specs.Frame.{frame}
-use Rattle.vertical.specs.U16.{valueAt}
+use Rattle.vertical.specs.Example.{pass4, sharp, even}
 
 -- m / 2^(e + 1), with its sign
 abbrev pub binary : Bool → ℕ → ℕ → Float
@@ -26,17 +23,6 @@ whole sign n = fin sign n (pos 0)
 
 abbrev pub third : Float
 third = double 1 over double 3
-
--- the u16 pass at precision 4: one window over a frame of one column
-abbrev pub pass4 : List ℤ → List ℕ → ℕ
-pass4 weights samples = valueAt 65535 (storedOf (setOf (layoutOf (length samples) (length weights) (0 ∷ []) (length weights ∷ [])) weights) 4) (frame 0 samples 1) 0 0
-
--- -4, 24, -4; and 8, 8
-abbrev pub sharp : List ℤ
-sharp = negsuc 3 ∷ pos 24 ∷ negsuc 3 ∷ []
-
-abbrev pub even : List ℤ
-even = pos 8 ∷ pos 8 ∷ []
 
 abbrev pub TableOfFourteen : Type 0
 TableOfFourteen =

@@ -16,18 +16,27 @@ use Rattle.windows.specs.Store.{store32, badPrecision}
 use Rattle.windows.specs.Fit.{badSet, Fits}
 use Rattle.windows.proofs.Fits.{fits}
 use Rattle.vertical.specs.declared.Passed.{Passed}
-use Rattle.vertical.specs.declared.Passed.the-variants.{Done, Refused}
-use Rattle.vertical.specs.Frame.{badFrame, badRange, sizeBad, shapeBad}
-use Rattle.vertical.specs.U16.{passed16}
-use Rattle.vertical.specs.F32.{passed32, badWeights, badSamples}
-
-abbrev done : Passed → Bool
-done Done = true
-done (Refused r) = false
+use Rattle.vertical.specs.declared.Passed.the-variants as passed
+use Rattle.vertical.specs.declared.PassedF32.{PassedF32}
+use Rattle.vertical.specs.declared.PassedF32.the-variants as passed-f32
+use Rattle.vertical.specs.Frame.{badFrame, badRange, badSize, badShape}
+use Rattle.vertical.specs.U16.{passedU16}
+use Rattle.vertical.specs.F32.{passedF32, badWeights, badSamples}
 
 -- a refusal is not done
-pub refused : {r : Refusal} → Refused r ≡ Done → ⊥
+abbrev done : Passed → Bool
+done passed.Done = true
+done (passed.Refused r) = false
+
+refused : {r : Refusal} → passed.Refused r ≡ passed.Done → ⊥
 refused h = never (sym (ap done h))
+
+abbrev done-f32 : PassedF32 → Bool
+done-f32 passed-f32.Done = true
+done-f32 (passed-f32.Refused r) = false
+
+refused-f32 : {r : Refusal} → passed-f32.Refused r ≡ passed-f32.Done → ⊥
+refused-f32 h = never (sym (ap done-f32 h))
 
 -- sides, set, frame and columns fit: neither pass refuses for these
 pub record Shaped {W : Type 0} (s : Set W) (samples row first count room : ℕ) : Type 0 where
@@ -47,7 +56,7 @@ module _ {W : Type 0} (s : Set W) (samples row first count room : ℕ) where
   abbrev full : Bool
   full = eqb room (windows (s .layout) * count)
 
-  pub shaped : sizeBad s row ≡ false → shapeBad s samples row first count room ≡ false → Shaped s samples row first count room
+  pub shaped : badSize (s .layout .lines) (windows (s .layout)) row ≡ false → badShape (s .layout) (length (s .weights)) samples row first count room ≡ false → Shaped s samples row first count room
   shaped size shape =
       let lists = or-left (set || frame) (badRange row first count (windows (s .layout)) room) shape in
       let range = or-right (set || frame) (badRange row first count (windows (s .layout)) room) shape in record {
@@ -59,36 +68,36 @@ module _ {W : Type 0} (s : Set W) (samples row first count room : ℕ) where
       }
 
   -- another range of columns that fits
-  pub reshaped : shapeBad s samples row first count room ≡ false → (first₂ count₂ room₂ : ℕ) → first₂ + count₂ ≤ row → room₂ ≡ windows (s .layout) * count₂ → shapeBad s samples row first₂ count₂ room₂ ≡ false
+  pub reshaped : badShape (s .layout) (length (s .weights)) samples row first count room ≡ false → (first₂ count₂ room₂ : ℕ) → first₂ + count₂ ≤ row → room₂ ≡ windows (s .layout) * count₂ → badShape (s .layout) (length (s .weights)) samples row first₂ count₂ room₂ ≡ false
   reshaped shape first₂ count₂ room₂ fit rooms =
       rw (or-left (set || frame) (badRange row first count (windows (s .layout)) room) shape, le-ltb row (first₂ + count₂) fit, eq-eqb room₂ (windows (s .layout) * count₂) rooms)
 
 -- each test of the u16 pass failed
-pub record Tests16 (s : Stored) (src : List ℕ) (row first count room : ℕ) : Type 0 where
-  pub size : sizeBad (s .set) row ≡ false
-  pub shape : shapeBad (s .set) (length src) row first count room ≡ false
+pub record TestsU16 (s : Stored) (samples row first count room : ℕ) : Type 0 where
+  pub size : badSize (s .set .layout .lines) (windows (s .set .layout)) row ≡ false
+  pub shape : badShape (s .set .layout) (length (s .set .weights)) samples row first count room ≡ false
   pub precision : badPrecision store32 (s .precision) ≡ false
 
-pub tests16 : (s : Stored) (src : List ℕ) (row first count room : ℕ) → passed16 s src row first count room ≡ Done → Tests16 s src row first count room
-unfolding passed16
-tests16 s src row first count room h =
-    let size = ladder (sizeBad (s .set) row) refused h in
-    let shape = ladder (shapeBad (s .set) (length src) row first count room) refused (size .1) in
+pub tests-u16 : (s : Stored) (samples row first count room : ℕ) → passedU16 s samples row first count room ≡ passed.Done → TestsU16 s samples row first count room
+unfolding passedU16
+tests-u16 s samples row first count room h =
+    let size = ladder (badSize (s .set .layout .lines) (windows (s .set .layout)) row) refused h in
+    let shape = ladder (badShape (s .set .layout) (length (s .set .weights)) samples row first count room) refused (size .1) in
     let precision = ladder (badPrecision store32 (s .precision)) refused (shape .1) in
     record { size = size .0; shape = shape .0; precision = precision .0 }
 
 -- each test of the f32 pass failed
-pub record Tests32 (s : Set Float) (src : List Float) (row first count room : ℕ) : Type 0 where
-  pub size : sizeBad s row ≡ false
-  pub shape : shapeBad s (length src) row first count room ≡ false
+pub record TestsF32 (s : Set Float) (src : List Float) (row first count room : ℕ) : Type 0 where
+  pub size : badSize (s .layout .lines) (windows (s .layout)) row ≡ false
+  pub shape : badShape (s .layout) (length (s .weights)) (length src) row first count room ≡ false
   pub weights : badWeights s ≡ false
   pub samples : badSamples s src row first count ≡ false
 
-pub tests32 : (s : Set Float) (src : List Float) (row first count room : ℕ) → passed32 s src row first count room ≡ Done → Tests32 s src row first count room
-unfolding passed32
-tests32 s src row first count room h =
-    let size = ladder (sizeBad s row) refused h in
-    let shape = ladder (shapeBad s (length src) row first count room) refused (size .1) in
-    let weights = ladder (badWeights s) refused (shape .1) in
-    let samples = ladder (badSamples s src row first count) refused (weights .1) in
+pub tests-f32 : (s : Set Float) (src : List Float) (row first count room : ℕ) → passedF32 s src row first count room ≡ passed-f32.Done → TestsF32 s src row first count room
+unfolding passedF32
+tests-f32 s src row first count room h =
+    let size = ladder (badSize (s .layout .lines) (windows (s .layout)) row) refused-f32 h in
+    let shape = ladder (badShape (s .layout) (length (s .weights)) (length src) row first count room) refused-f32 (size .1) in
+    let weights = ladder (badWeights s) refused-f32 (shape .1) in
+    let samples = ladder (badSamples s src row first count) refused-f32 (weights .1) in
     record { size = size .0; shape = shape .0; weights = weights .0; samples = samples .0 }

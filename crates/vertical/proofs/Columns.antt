@@ -15,10 +15,11 @@ use Rattle.lists.proofs.TabLaws.{tab-ext, getD-tab, grid-at}
 use Rattle.floats.specs.Doubles.{isFinite}
 use Rattle.windows.specs.Set.{Set, Stored, windows, size, sample}
 use Rattle.vertical.specs.declared.Passed.the-variants.{Done}
+use Rattle.vertical.specs.declared.PassedF32.the-variants.{Done as DoneF32}
 use Rattle.vertical.specs.Frame.{frame, output, columns}
-use Rattle.vertical.specs.U16.{valueAt, passed16, written16}
-use Rattle.vertical.specs.F32.{valueAt32, badLine, badSamples, passed32, written32}
-use Rattle.vertical.proofs.Answers.{reshaped, tests16, tests32}
+use Rattle.vertical.specs.U16.{valueAt, passedU16, writtenU16}
+use Rattle.vertical.specs.F32.{valueF32, badLine, badSamples, passedF32, writtenF32}
+use Rattle.vertical.proofs.Answers.{reshaped, tests-u16, tests-f32}
 
 pub some-column : (windows count k : ℕ) → k < windows * count → 0 < count
 some-column windows zero k h = absurd (omega (arith, mul-zero windows))
@@ -39,18 +40,18 @@ module _ {A : Type 0} (value : ℕ → ℕ → A) (d : A) (windows row first cou
       tab-ext 0 (windows * count) (grid count (λ i j. value i (first + j))) (grid count (λ i j. getD (output value windows 0 row) (i * row + (first + j)) d))
       (λ k h. let b = some-column windows count k h in rw zero-add (sym (slot (k / count) (k % count) (div-lt-iff-lt-mul b .1 h) (mod-lt k b))))
 
-module _ (s : Stored) (src : List ℕ) (row : ℕ) (whole : List ℕ) (done : passed16 s src row 0 row (length whole) ≡ Done)
+module _ (s : Stored) (src : List ℕ) (row : ℕ) (whole : List ℕ) (done : passedU16 s (length src) row 0 row (length whole) ≡ Done)
     (first count : ℕ) (list : List ℕ) (fit : first + count ≤ row) (rooms : length list ≡ windows (s .set .layout) * count) where
-  range-done16 : passed16 s src row first count (length list) ≡ Done
-  unfolding passed16
-  range-done16 =
-      let t = tests16 s src row 0 row (length whole) done in
+  range-done-u16 : passedU16 s (length src) row first count (length list) ≡ Done
+  unfolding passedU16
+  range-done-u16 =
+      let t = tests-u16 s (length src) row 0 row (length whole) done in
       rw (t .size, reshaped (s .set) (length src) row 0 row (length whole) (t .shape) first count (length list) fit rooms, t .precision)
 
   -- where the whole frame is not refused, a range of columns is not, and its output is those columns of the whole
-  pub columns-cut-u16 : (passed16 s src row first count (length list) ≡ Done) × (written16 s src row first count list ≡ columns 0 row (windows (s .set .layout)) first count (written16 s src row 0 row whole))
-  unfolding written16
-  columns-cut-u16 = (range-done16, rw (range-done16, done) (columns-cut (valueAt 65535 s (frame 0 src row)) 0 (windows (s .set .layout)) row first count fit))
+  pub columns-cut-u16 : (passedU16 s (length src) row first count (length list) ≡ Done) × (writtenU16 s src row first count list ≡ columns 0 row (windows (s .set .layout)) first count (writtenU16 s src row 0 row whole))
+  unfolding writtenU16
+  columns-cut-u16 = (range-done-u16, rw (range-done-u16, done) (columns-cut (valueAt 65535 s (frame 0 src row)) 0 (windows (s .set .layout)) row first count fit))
 
 -- samples that are good over the whole row are good over the columns of a range
 samples : (s : Set Float) (src : List Float) (row first count : ℕ) → first + count ≤ row → badSamples s src row 0 row ≡ false → badSamples s src row first count ≡ false
@@ -59,14 +60,14 @@ samples s src row first count fit =
     (λ i l. any-mono (badLine s src row 0 row i) (badLine s src row first count i) (size (s .layout) i)
     (λ k l h. any-part (λ j. not (isFinite (sample (s .layout) (frame nan src row) i j k))) row first count fit (simp zero-add at h)))
 
-module _ (s : Set Float) (src : List Float) (row : ℕ) (whole : List Float) (done : passed32 s src row 0 row (length whole) ≡ Done)
+module _ (s : Set Float) (src : List Float) (row : ℕ) (whole : List Float) (done : passedF32 s src row 0 row (length whole) ≡ DoneF32)
     (first count : ℕ) (list : List Float) (fit : first + count ≤ row) (rooms : length list ≡ windows (s .layout) * count) where
-  range-done32 : passed32 s src row first count (length list) ≡ Done
-  unfolding passed32
-  range-done32 =
-      let t = tests32 s src row 0 row (length whole) done in
+  range-done-f32 : passedF32 s src row first count (length list) ≡ DoneF32
+  unfolding passedF32
+  range-done-f32 =
+      let t = tests-f32 s src row 0 row (length whole) done in
       rw (t .size, reshaped s (length src) row 0 row (length whole) (t .shape) first count (length list) fit rooms, t .weights, samples s src row first count fit (t .samples))
 
-  pub columns-cut-f32 : (passed32 s src row first count (length list) ≡ Done) × (written32 s src row first count list ≡ columns nan row (windows (s .layout)) first count (written32 s src row 0 row whole))
-  unfolding written32
-  columns-cut-f32 = (range-done32, rw (range-done32, done) (columns-cut (valueAt32 s (frame nan src row)) nan (windows (s .layout)) row first count fit))
+  pub columns-cut-f32 : (passedF32 s src row first count (length list) ≡ DoneF32) × (writtenF32 s src row first count list ≡ columns nan row (windows (s .layout)) first count (writtenF32 s src row 0 row whole))
+  unfolding writtenF32
+  columns-cut-f32 = (range-done-f32, rw (range-done-f32, done) (columns-cut (valueF32 s (frame nan src row)) nan (windows (s .layout)) row first count fit))

@@ -7,6 +7,8 @@ use Rattle.vertical.proofs.shape_fits.Kinds as shape
 use Rattle.vertical.proofs.shape_fits.Reads as shape-reads
 use Rattle.vertical.proofs.Passed.number.Kinds as number
 use Rattle.vertical.proofs.Passed.number.Reads as number-reads
+use Rattle.vertical.proofs.PassedF32.number.Kinds as number-f32
+use Rattle.vertical.proofs.PassedF32.number.Reads as number-f32-reads
 
 pub size-fits-decides : DecidesResult size.ps size.r size-reads.Post
 size-fits-decides κs a x y s t p q = p ∙ sym q
@@ -16,3 +18,6 @@ shape-fits-decides κs a x y s t p q = p ∙ sym q
 
 pub number-decides : DecidesResult number.ps number.r number-reads.Post
 number-decides κs a x y s t p q = p ∙ sym q
+
+pub number-f32-decides : DecidesResult number-f32.ps number-f32.r number-f32-reads.Post
+number-f32-decides κs a x y s t p q = p ∙ sym q

@@ -4,26 +4,14 @@
 use mathlib.Core.Path.{_≡_, refl}
 use mathlib.Core.List.{List, [], _∷_}
 use Prim.Native.Nat.{ℕ}
-use lib.IntN.{ℤ, pos, negsuc}
 use lib.Ieee.{Float, nan, binary32, binary64, add, mul, round, ofBits, toBits, sum as sumOf}
 use lib.ListN.{length}
 use Rattle.integers.specs.Sums.{sum, shifted, clipped}
 use Rattle.numbers.specs.Whole.{narrow}
-use Rattle.windows.specs.Set.{layoutOf, setOf, storedOf}
+use Rattle.windows.specs.Set.{layoutOf, setOf}
 use Rattle.vertical.specs.Frame.{frame}
-use Rattle.vertical.specs.U16.{valueAt}
-use Rattle.vertical.specs.F32.{valueAt32}
-
--- precision 4, the weights and samples of one window
-abbrev pub pass4 : List ℤ → List ℕ → ℕ
-pass4 weights src =
-    valueAt 65535 (storedOf (setOf (layoutOf (length src) (length weights) (0 ∷ []) (length weights ∷ [])) weights) 4) (frame 0 src 1) 0 0
-
-abbrev pub sharp : List ℤ
-sharp = negsuc 3 ∷ pos 24 ∷ negsuc 3 ∷ []
-
-abbrev pub even : List ℤ
-even = pos 8 ∷ pos 8 ∷ []
+use Rattle.vertical.specs.Example.{pass4, sharp, even}
+use Rattle.vertical.specs.F32.{valueF32}
 
 pub rows-10-to-12 :
     (pass4 sharp (100 ∷ 200 ∷ 100 ∷ []) ≡ 250)
@@ -34,26 +22,26 @@ rows-10-to-12 = (refl, (refl, refl), (refl, refl, refl))
 
 -- ---- the f32 pass, as bits: ties of the narrowing to the even one (row 14, through a pass), and the order of the sum
 
-abbrev pub pass32 : List Float → List Float → ℕ
-pass32 weights src =
-    toBits binary32 (valueAt32 (setOf (layoutOf (length src) (length weights) (0 ∷ []) (length weights ∷ [])) weights) (frame nan src 1) 0 0)
+abbrev pub passF32 : List Float → List Float → ℕ
+passF32 weights src =
+    toBits binary32 (valueF32 (setOf (layoutOf (length src) (length weights) (0 ∷ []) (length weights ∷ [])) weights) (frame nan src 1) 0 0)
 
 -- the double with these bits
-abbrev double : ℕ → Float
-double n = ofBits binary64 n
+abbrev pattern : ℕ → Float
+pattern n = ofBits binary64 n
 
 -- 1 + 2^-24 gives 1, and 1 + 3 x 2^-24 gives 1 + 2^-22
-pub pass32-ties :
-    (pass32 (double 0x3ff0_0000_1000_0000 ∷ []) (double 0x3ff0_0000_0000_0000 ∷ []) ≡ 0x3f80_0000)
-    × (pass32 (double 0x3ff0_0000_3000_0000 ∷ []) (double 0x3ff0_0000_0000_0000 ∷ []) ≡ 0x3f80_0002)
+pub ties-f32 :
+    (passF32 (pattern 0x3ff0_0000_1000_0000 ∷ []) (pattern 0x3ff0_0000_0000_0000 ∷ []) ≡ 0x3f80_0000)
+    × (passF32 (pattern 0x3ff0_0000_3000_0000 ∷ []) (pattern 0x3ff0_0000_0000_0000 ∷ []) ≡ 0x3f80_0002)
 unfolding narrow add mul ofBits toBits round sumOf
-pass32-ties = (refl, refl)
+ties-f32 = (refl, refl)
 
 -- 1 + 2^60 - 2^60 is 0 in line order, and would be 1 in the other
-pub pass32-order :
-    pass32
-    (double 0x3ff0_0000_0000_0000 ∷ double 0x43b0_0000_0000_0000 ∷ double 0xc3b0_0000_0000_0000 ∷ [])
-    (double 0x3ff0_0000_0000_0000 ∷ double 0x3ff0_0000_0000_0000 ∷ double 0x3ff0_0000_0000_0000 ∷ [])
+pub order-f32 :
+    passF32
+    (pattern 0x3ff0_0000_0000_0000 ∷ pattern 0x43b0_0000_0000_0000 ∷ pattern 0xc3b0_0000_0000_0000 ∷ [])
+    (pattern 0x3ff0_0000_0000_0000 ∷ pattern 0x3ff0_0000_0000_0000 ∷ pattern 0x3ff0_0000_0000_0000 ∷ [])
     ≡ 0
 unfolding narrow add mul ofBits toBits round sumOf
-pass32-order = refl
+order-f32 = refl

@@ -28,7 +28,7 @@ ready s samples row first count room h = record {
 }
 
 -- at one window: its weights, its row of the output and its lines of the frame are there, and no index passes a usize
-pub record Turn (samples row first count : ℕ) (starts sizes : List ℕ) (windowSize slots room i : ℕ) : Type 0 where
+pub record WindowThere (samples row first count : ℕ) (starts sizes : List ℕ) (windowSize slots room i : ℕ) : Type 0 where
   pub weights : i * windowSize + getD sizes i 0 ≤ slots
   pub weights-few : slots < 2 ^ 30
   pub outputs : i * count + count ≤ room
@@ -47,8 +47,8 @@ module _ (samples row first count : ℕ) (starts sizes : List ℕ) (windowSize s
   frame-lines k g =
       omega (arith, add-mul (getD starts i 0) (getD sizes i 0) row, r .inside i h, row-end k (getD sizes i 0) row g, r .fit)
 
-  pub turn-at : Turn samples row first count starts sizes windowSize slots room i
-  turn-at = record {
+  pub window-there : WindowThere samples row first count starts sizes windowSize slots room i
+  window-there = record {
     weights = omega (arith, row-end i (length starts) windowSize h, r .set .full, r .set .small i h);
     weights-few = omega (arith, r .set .full, mul-le-mul (r .set .few-windows) (r .set .few-slots));
     outputs = omega (arith, row-end i (length starts) count h, r .rooms);

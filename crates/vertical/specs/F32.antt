@@ -11,14 +11,14 @@ use Rattle.refusal.specs.declared.Refusal.the-variants.{BadSide, DoesNotFit, Sa
 use Rattle.floats.specs.Doubles.{isFinite}
 use Rattle.numbers.specs.Whole.{abs, narrow}
 use Rattle.windows.specs.Set.{Set, windows, size, weight, sample}
-use Rattle.vertical.specs.declared.Passed.{Passed}
-use Rattle.vertical.specs.declared.Passed.the-variants.{Done, Refused}
-use Rattle.vertical.specs.Passed.{after}
-use Rattle.vertical.specs.Frame.{frame, output, sizeBad, shapeBad}
+use Rattle.vertical.specs.declared.PassedF32.{PassedF32}
+use Rattle.vertical.specs.declared.PassedF32.the-variants.{Done, Refused}
+use Rattle.vertical.specs.PassedF32.{after}
+use Rattle.vertical.specs.Frame.{frame, output, badSize, badShape}
 
 -- window i at column j: from +0 in line order, sample x weight added in binary64; narrowed at the end
-abbrev pub valueAt32 : Set Float → (ℕ → ℕ → Float) → ℕ → ℕ → Float
-valueAt32 s samples i j = narrow (turns (λ t k. add binary64 t (mul binary64 (sample (s .layout) samples i j k) (weight s nan i k))) (ofBits binary64 0) (size (s .layout) i))
+abbrev pub valueF32 : Set Float → (ℕ → ℕ → Float) → ℕ → ℕ → Float
+valueF32 s samples i j = narrow (turns (λ t k. add binary64 t (mul binary64 (sample (s .layout) samples i j k) (weight s nan i k))) (ofBits binary64 0) (size (s .layout) i))
 
 -- No. 12: a weight in use that is not finite, or above 2^64 in size
 abbrev pub badWeight : Set Float → ℕ → ℕ → Bool
@@ -36,13 +36,13 @@ module _ (s : Set Float) (src : List Float) (row first count : ℕ) where
   badSamples = any (windows (s .layout)) (λ i. any (size (s .layout) i) (badLine i))
 
   -- the answer, where the output has room for so many samples
-  unfoldable pub passed32 : ℕ → Passed
-  passed32 room =
-      cond (sizeBad s row) (Refused BadSide)
-      (cond (shapeBad s (length src) row first count room) (Refused DoesNotFit)
+  unfoldable pub passedF32 : ℕ → PassedF32
+  passedF32 room =
+      cond (badSize (s .layout .lines) (windows (s .layout)) row) (Refused BadSide)
+      (cond (badShape (s .layout) (length (s .weights)) (length src) row first count room) (Refused DoesNotFit)
       (cond (badWeights s) (Refused SampleOutside)
       (cond badSamples (Refused SampleOutside)
       Done)))
 
-  unfoldable pub written32 : List Float → List Float
-  written32 old = after (passed32 (length old)) (output (valueAt32 s (frame nan src row)) (windows (s .layout)) first count) old
+  unfoldable pub writtenF32 : List Float → List Float
+  writtenF32 old = after (passedF32 (length old)) (output (valueF32 s (frame nan src row)) (windows (s .layout)) first count) old

@@ -4,10 +4,10 @@ use mathlib.Core.Bool.{Bool, not, _||_}
 use mathlib.Core.List.{List}
 use Prim.Native.Nat.{ℕ, _+_, _*_}
 use lib.Dec.{eqb, ltb}
-use lib.ListN.{length, getD}
+use lib.ListN.{getD, take, drop}
 use Rattle.lists.specs.Ranges.{outside, badSides}
 use Rattle.lists.specs.Tab.{tab, grid}
-use Rattle.windows.specs.Set.{Layout, Set, windows}
+use Rattle.windows.specs.Set.{Layout, windows}
 use Rattle.windows.specs.Fit.{badSet}
 
 -- the sample of a camera line at a column, where the lines stand one after the other in rows of `row` samples; d stands for a sample that is not there
@@ -17,6 +17,10 @@ frame d src row line column = getD src (line * row + column) d
 -- what a pass writes: a row for each window, the columns from first on, count of them. `at i j` is the value of window i at column j
 abbrev pub output : {A : Type 0} → (ℕ → ℕ → A) → ℕ → ℕ → ℕ → List A
 output at windows first count = tab 0 (windows * count) (grid count (λ i j. at i (first + j)))
+
+-- row i of what a pass wrote
+abbrev pub rowOf : {A : Type 0} → ℕ → ℕ → List A → List A
+rowOf count i out = take count (drop (i * count) out)
 
 -- the same columns, taken from the output over the whole row
 abbrev pub columns : {A : Type 0} → A → ℕ → ℕ → ℕ → ℕ → List A → List A
@@ -37,11 +41,3 @@ badRange row first count windows room = ltb row (first + count) || not (eqb room
 -- No. 10 of both passes: the set, the frame, or the columns
 abbrev pub badShape : Layout → ℕ → ℕ → ℕ → ℕ → ℕ → ℕ → Bool
 badShape l slots samples row first count room = (badSet l slots || badFrame samples (l .lines) row) || badRange row first count (windows l) room
-
--- the same of a set
-module _ {W : Type 0} (s : Set W) where
-  abbrev pub sizeBad : ℕ → Bool
-  sizeBad row = badSize (s .layout .lines) (windows (s .layout)) row
-
-  abbrev pub shapeBad : ℕ → ℕ → ℕ → ℕ → ℕ → Bool
-  shapeBad samples row first count room = badShape (s .layout) (length (s .weights)) samples row first count room

@@ -1,4 +1,4 @@
--- The answer of a pass: document 01's number for each case, and what it says of the output. Cited by the contracts of both passes and by the promises.
+-- The answer of a pass over integers: document 01's number for each case, and what it says of the output. Cited by the contract of the u16 pass and by the promises.
 -- Definitions only. Assumes nothing.
 use Prim.Native.Nat.{ℕ}
 use Rattle.refusal.specs.Refusal.{numberOf as refusalNumber}

@@ -1,34 +1,37 @@
 -- The u16 pass: its refusals in the order of their numbers, the value of a window at a column, and the output. Cited by the contract of `vertical_u16` and by
 -- the promises. The value is over the largest sample M and a frame by line and column. Definitions only. Assumes nothing.
-use mathlib.Core.Bool.{cond}
+use mathlib.Core.Bool.{Bool, cond}
 use mathlib.Core.List.{List}
-use Prim.Native.Nat.{ℕ}
-use lib.IntN.{ℤ, pos}
+use Prim.Native.Nat.{ℕ, _*_, _^_}
+use lib.Dec.{ltb}
+use lib.IntN.{pos}
 use lib.ListN.{length}
 use Rattle.refusal.specs.declared.Refusal.the-variants.{BadSide, DoesNotFit}
-use Rattle.integers.specs.Sums.{total, shifted, clipped}
-use Rattle.windows.specs.Set.{Stored, windows, size, weight, sample}
+use Rattle.integers.specs.Sums.{value}
+use Rattle.windows.specs.Set.{Stored, windows, size, weight, sample, distanceOf}
 use Rattle.windows.specs.Store.{store32, badPrecision}
 use Rattle.vertical.specs.declared.Passed.{Passed}
 use Rattle.vertical.specs.declared.Passed.the-variants.{Done, Refused}
 use Rattle.vertical.specs.Passed.{after}
-use Rattle.vertical.specs.Frame.{frame, output, sizeBad, shapeBad}
+use Rattle.vertical.specs.Frame.{frame, output, badSize, badShape}
 
--- window i at column j: the sum of weight x sample plus 2^(p-1), divided by 2^p rounding down; and that clipped to 0 .. M
-abbrev pub roundedAt : Stored → (ℕ → ℕ → ℕ) → ℕ → ℕ → ℤ
-roundedAt s samples i j = shifted (s .precision) (total (weight (s .set) (pos 0) i) (sample (s .set .layout) samples i j) (size (s .set .layout) i))
-
+-- window i at column j: the sum of weight x sample plus 2^(p-1), divided by 2^p rounding down, and clipped to 0 .. M
 abbrev pub valueAt : ℕ → Stored → (ℕ → ℕ → ℕ) → ℕ → ℕ → ℕ
-valueAt M s samples i j = clipped M (roundedAt s samples i j)
+valueAt M s samples i j = value M (s .precision) (weight (s .set) (pos 0) i) (sample (s .set .layout) samples i j) (size (s .set .layout) i)
 
-module _ (s : Stored) (src : List ℕ) (row first count : ℕ) where
-  -- the answer, where the output has room for so many samples
-  unfoldable pub passed16 : ℕ → Passed
-  passed16 room =
-      cond (sizeBad (s .set) row) (Refused BadSide)
-      (cond (shapeBad (s .set) (length src) row first count room) (Refused DoesNotFit)
-      (cond (badPrecision store32 (s .precision)) (Refused DoesNotFit)
-      Done))
+-- the customer's premise for flat frames, of window i and samples up to M: 2 M times the distance of the weights' total from 2^P is under 2^P
+abbrev pub keepsFlat : ℕ → Stored → ℕ → Bool
+keepsFlat M s i = ltb (2 * M * distanceOf s i) (2 ^ s .precision)
 
-  unfoldable pub written16 : List ℕ → List ℕ
-  written16 old = after (passed16 (length old)) (output (valueAt 65535 s (frame 0 src row)) (windows (s .set .layout)) first count) old
+-- the answer, for a frame of so many samples and an output with room for so many
+unfoldable pub passedU16 : Stored → ℕ → ℕ → ℕ → ℕ → ℕ → Passed
+passedU16 s samples row first count room =
+    cond (badSize (s .set .layout .lines) (windows (s .set .layout)) row) (Refused BadSide)
+    (cond (badShape (s .set .layout) (length (s .set .weights)) samples row first count room) (Refused DoesNotFit)
+    (cond (badPrecision store32 (s .precision)) (Refused DoesNotFit)
+    Done))
+
+-- what `old` holds after it
+unfoldable pub writtenU16 : Stored → List ℕ → ℕ → ℕ → ℕ → List ℕ → List ℕ
+writtenU16 s src row first count old =
+    after (passedU16 s (length src) row first count (length old)) (output (valueAt 65535 s (frame 0 src row)) (windows (s .set .layout)) first count) old

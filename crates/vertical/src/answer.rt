@@ -1,7 +1,9 @@
 // The number of an answer.
 ghost use mathlib.Core.Path.{_≡_};
 ghost use Rattle.vertical.specs.Passed.{numberOf};
+ghost use Rattle.vertical.specs.PassedF32.{numberOf as numberOfF32};
 use crate::Passed;
+use crate::PassedF32;
 
 impl Passed {
     // Document 01's number: 0 where every window's row is written, else the refusal's.
@@ -11,6 +13,18 @@ impl Passed {
         match self {
             Passed::Done => 0,
             Passed::Refused(refusal) => refusal::number(refusal),
+        }
+    }
+}
+
+impl PassedF32 {
+    // The same of the f32 pass.
+    pub fn number(self) -> u32
+        ensures answer { λ r. ⌜ r ≡ numberOfF32 self ⌝ }
+    {
+        match self {
+            PassedF32::Done => 0,
+            PassedF32::Refused(refusal) => refusal::number(refusal),
         }
     }
 }

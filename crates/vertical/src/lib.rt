@@ -12,6 +12,18 @@ ghost use mathlib.Core.Bool.{not};
 ghost use Rattle.windows.specs.Set.{layoutOf};
 ghost use Rattle.vertical.specs.Frame.{badSize, badRange, badShape};
 
+// A frame of samples, line after line, and the columns of it that are asked for.
+pub struct Frame {
+    // camera lines
+    pub lines: u32,
+    // samples of a line
+    pub row: u32,
+    // the first column asked for
+    pub first: u32,
+    // how many columns
+    pub count: u32,
+}
+
 pub enum Passed {
     // 0: every window's row is written
     Done,
@@ -19,38 +31,42 @@ pub enum Passed {
     Refused(Refusal),
 }
 
+pub enum PassedF32 {
+    // 0: every window's row is written
+    Done,
+    // why not; the output is unchanged
+    Refused(Refusal),
+}
+
 // Whether both sides are 1 to 8,192 and a row has 1 to 32,768 samples, for any counts.
-pub fn size_fits(lines: u32, windows: usize, row: u32) -> bool
-    ensures answer { λ r. ⌜ r ≡ not (badSize lines windows row) ⌝ }
+pub fn size_fits(frame: Frame, windows: usize) -> bool
+    ensures answer { λ r. ⌜ r ≡ not (badSize (frame .lines) windows (frame .row)) ⌝ }
 {
-    if !sides_fit(lines, windows) {
+    if !sides_fit(frame.lines, windows) {
         return false;
     }
-    !((row < 1) | (32768 < row))
+    !((frame.row < 1) | (32768 < frame.row))
 }
 
 // Whether the set, the frame and the columns fit their lists, for any numbers and lists.
 pub fn shape_fits(
+    frame: Frame,
     samples: usize,
-    lines: u32,
-    row: u32,
-    first: u32,
-    count: u32,
     window_size: u32,
     slots: usize,
     starts: &[u32],
     sizes: &[u32],
     room: usize,
 ) -> bool
-    ensures answer { λ r. ⌜ r ≡ not (badShape (layoutOf lines «window_size» (now (starts .entry)) (now (sizes .entry))) slots samples row first count room) ⌝ }
+    ensures answer { λ r. ⌜ r ≡ not (badShape (layoutOf (frame .lines) «window_size» (now (starts .entry)) (now (sizes .entry))) slots samples (frame .row) (frame .first) (frame .count) room) ⌝ }
 {
-    if !set_fits(lines, window_size, slots, starts, sizes) {
+    if !set_fits(frame.lines, window_size, slots, starts, sizes) {
         return false;
     }
-    if !fills(samples, lines as usize, row) {
+    if !fills(samples, frame.lines as usize, frame.row) {
         return false;
     }
-    columns_fit(row, first, count, starts.len(), room)
+    columns_fit(frame.row, frame.first, frame.count, starts.len(), room)
 }
 
 // Whether the columns are in the row, and the output has room for them exactly. Their end is taken in 64 bits, where it cannot wrap.

@@ -15,11 +15,11 @@ use lib.Ieee.Bits.{ofBits-toBits, toBits-lt}
 use Rattle.floats.proofs.Digits.{value-zero, value-mid}
 use Rattle.floats.proofs.Laws.{pow-le-cancel}
 use Rattle.floats.proofs.Pattern.{fields}
-use Rattle.floats.proofs.Value.{mul-values, lt-values, same-test}
+use Rattle.floats.proofs.Value.{mul-values, lt-values, rescale, same-test}
 use Rattle.floats.specs.Within.{AtMost}
 use Rattle.numbers.specs.Whole.{narrow}
 use Rattle.vertical_f32.specs.Narrowing.{largerOf, roundedBy}
-use Rattle.vertical_f32.proofs.SignBack.{bit, rescale}
+use Rattle.vertical_f32.proofs.SignBack.{bit}
 use Rattle.vertical_f32.proofs.Narrowed.{factor, tiny, tiny-grid, core}
 
 -- ---- the exponent's field X and the digits t of x

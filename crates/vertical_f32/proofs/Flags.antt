@@ -20,7 +20,7 @@ use Rattle.floats.proofs.AtMost.{finite-at}
 use Rattle.numbers.specs.Whole.{abs}
 use Rattle.windows.specs.Set.{Set, windows, size, start}
 use Rattle.vertical.specs.F32.{badWeight, badWeights, badLine, badSamples}
-use Rattle.vertical_f32.specs.Scan.{Samples, Lights, Weights}
+use Rattle.vertical_f32.specs.Scan.{FiniteSamples, SmallSamples, SmallWeights}
 use Rattle.vertical_f32.proofs.Decided.{decided}
 
 -- ---- of one number
@@ -59,32 +59,32 @@ finite-sample (fin s m e) h = refl
 -- ---- of a set
 
 module _ (s : Set Float) where
-  pub weights-good : badWeights s ≡ false → Weights (s .layout .starts) (s .layout .sizes) (s .layout .windowSize) (s .weights)
+  pub weights-good : badWeights s ≡ false → SmallWeights (s .layout .starts) (s .layout .sizes) (s .layout .windowSize) (s .weights)
   weights-good h i l k m =
       weight-small (getD (s .weights) (i * s .layout .windowSize + k) nan)
       (any-none (badWeight s i) (size (s .layout) i) (any-none (λ i. any (size (s .layout) i) (badWeight s i)) (windows (s .layout)) h i l) k m)
 
-  pub good-weights : Weights (s .layout .starts) (s .layout .sizes) (s .layout .windowSize) (s .weights) → badWeights s ≡ false
+  pub good-weights : SmallWeights (s .layout .starts) (s .layout .sizes) (s .layout .windowSize) (s .weights) → badWeights s ≡ false
   good-weights w =
       none-any (λ i. any (size (s .layout) i) (badWeight s i)) (windows (s .layout))
       (λ i l. none-any (badWeight s i) (size (s .layout) i) (λ k m. small-weight (getD (s .weights) (i * s .layout .windowSize + k) nan) (w i l k m)))
 
   -- the scan of the weights says what the flag says
-  pub weights-said : (r : Bool) → (r ≡ true → Weights (s .layout .starts) (s .layout .sizes) (s .layout .windowSize) (s .weights)) → (r ≡ false → Weights (s .layout .starts) (s .layout .sizes) (s .layout .windowSize) (s .weights) → ⊥) → r ≡ not (badWeights s)
+  pub weights-said : (r : Bool) → (r ≡ true → SmallWeights (s .layout .starts) (s .layout .sizes) (s .layout .windowSize) (s .weights)) → (r ≡ false → SmallWeights (s .layout .starts) (s .layout .sizes) (s .layout .windowSize) (s .weights) → ⊥) → r ≡ not (badWeights s)
   weights-said r is isnt = decided r (badWeights s) is isnt good-weights weights-good
 
   module _ (src : List Float) (row first count : ℕ) where
     place : (i k j : ℕ) → (start (s .layout) i + k) * row + (first + j) ≡ (start (s .layout) i + k) * row + first + j
     place i k j = sym (add-assoc ((start (s .layout) i + k) * row) first j)
 
-    pub samples-good : badSamples s src row first count ≡ false → Samples src row first count (s .layout .starts) (s .layout .sizes)
+    pub samples-good : badSamples s src row first count ≡ false → FiniteSamples src row first count (s .layout .starts) (s .layout .sizes)
     samples-good h i l k m j u =
         subst (λ (y : ℕ). T (finite (getD src y nan))) (place i k j)
         (sample-finite (getD src ((start (s .layout) i + k) * row + (first + j)) nan)
         (any-none (λ j. not (isFinite (getD src ((start (s .layout) i + k) * row + (first + j)) nan))) count
         (any-none (badLine s src row first count i) (size (s .layout) i) (any-none (λ i. any (size (s .layout) i) (badLine s src row first count i)) (windows (s .layout)) h i l) k m) j u))
 
-    pub good-samples : Samples src row first count (s .layout .starts) (s .layout .sizes) → badSamples s src row first count ≡ false
+    pub good-samples : FiniteSamples src row first count (s .layout .starts) (s .layout .sizes) → badSamples s src row first count ≡ false
     good-samples w =
         none-any (λ i. any (size (s .layout) i) (badLine s src row first count i)) (windows (s .layout))
         (λ i l. none-any (badLine s src row first count i) (size (s .layout) i)
@@ -92,7 +92,7 @@ module _ (s : Set Float) where
         (λ j u. finite-sample (getD src ((start (s .layout) i + k) * row + (first + j)) nan) (subst (λ (y : ℕ). T (finite (getD src y nan))) (sym (place i k j)) (w i l k m j u)))))
 
     -- the scan of the samples says what the flag says
-    pub samples-said : (r : Bool) → (r ≡ true → Lights src row first count (s .layout .starts) (s .layout .sizes)) → (r ≡ false → Samples src row first count (s .layout .starts) (s .layout .sizes) → ⊥) → r ≡ not (badSamples s src row first count)
+    pub samples-said : (r : Bool) → (r ≡ true → SmallSamples src row first count (s .layout .starts) (s .layout .sizes)) → (r ≡ false → FiniteSamples src row first count (s .layout .starts) (s .layout .sizes) → ⊥) → r ≡ not (badSamples s src row first count)
     samples-said r is isnt =
         decided r (badSamples s src row first count)
         (λ e i l k m j u. finite-at (getD src ((start (s .layout) i + k) * row + first + j) nan) (2 ^ 128) (is e i l k m j u)) isnt good-samples samples-good

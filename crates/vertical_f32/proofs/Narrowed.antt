@@ -15,13 +15,14 @@ use lib.Ieee.Exact.{HasValue, units-val}
 use lib.Ieee.Nearest.{closest}
 use Rattle.floats.proofs.Digits.{round-digits}
 use Rattle.floats.proofs.Pattern.{units-over}
+use Rattle.floats.proofs.Value.{rescale}
 use Rattle.numbers.proofs.NarrowLaws.{narrow-value}
 use Rattle.numbers.proofs.Codes.{narrow-fits}
 use Rattle.numbers.specs.Whole.{narrow}
 use Rattle.vertical_f32.specs.Narrowing.{roundedBy}
 use Rattle.vertical_f32.proofs.AddAway.{kept, grid}
 use Rattle.vertical_f32.proofs.Overflow.{Y-value, stays, leaves}
-use Rattle.vertical_f32.proofs.SignBack.{bit, inf-sign, rescale, settle}
+use Rattle.vertical_f32.proofs.SignBack.{bit, inf-sign, settle}
 
 -- ---- the constants
 times : HasValue (ofBits binary64 0x77f0000000000000) false (2 ^ 896) 1

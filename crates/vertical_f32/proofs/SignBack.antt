@@ -1,7 +1,7 @@
 -- The sign put back on a result by its bit, also where the result is a zero or an infinity. Cited by `Narrowed`. Assumes nothing.
 use mathlib.Core.Path.{_≡_, refl, sym, ap, _∙_, subst}
 use Prim.Native.Nat.{ℕ, zero, suc, _+_, _-_, _*_, _/_, _^_, _<_}
-use native.Mathlib.Nat.{add-zero, mul-right-comm, eq-of-mul-eq-mul-right}
+use native.Mathlib.Nat.{add-zero}
 use native.Mathlib.Omega.{arith}
 use mathlib.Core.Bool.{Bool, true, false, not, cond}
 use lib.IntN.{ℤ}
@@ -60,13 +60,6 @@ inf-sign s b k = ap (λ (z : ℕ). ofBits binary64 (bitOr (toBits binary64 (inf 
     go : (s : Bool) → ofBits binary64 (bitOr (toBits binary64 (inf s)) (bit s * 2 ^ 63)) ≡ inf s
     go true = refl
     go false = refl
-
--- ---- from one fraction to another of the same size
-pub rescale : (x : Float) (s : Bool) (w l num den : ℕ) → 0 < l → num * l ≡ w * den → HasValue x s w l → HasValue x s num den
-rescale nan s w l num den p h v = v
-rescale (inf t) s w l num den p h v = v
-rescale (fin t m e) s w l num den p h v =
-    (v .0, eq-of-mul-eq-mul-right l p (m * up e * den) (num * down e) (mul-right-comm (m * up e) den l ∙ ap (λ (x : ℕ). x * den) (v .1) ∙ mul-right-comm w (down e) den ∙ ap (λ (x : ℕ). x * down e) (sym h) ∙ mul-right-comm num l (down e)))
 
 -- ---- a finite result
 pub settle : (z v : Float) (t s : Bool) (W L b : ℕ) → 0 < L → HasValue z t W L → T (fits binary64 z) → (T t → T s) → b / 2 ^ 63 ≡ bit s → HasValue v s W L → T (fits binary64 v)

@@ -14,7 +14,7 @@ use lib.Ieee.Exact.{HasValue}
 use Rattle.floats.specs.Within.{AtMost}
 use Rattle.floats.proofs.AtMost.{add-at, mul-at, at-more}
 use Rattle.floats.proofs.Laws.{exact-up}
-use Rattle.vertical_f32.specs.Column.{columnSum, Good}
+use Rattle.vertical_f32.specs.Column.{columnSum, Summable}
 
 -- ---- one term more
 pub sum-none : (ws src : List Float) (at row : ℕ) → ofBits binary64 0 ≡ columnSum ws src at row 0
@@ -52,7 +52,7 @@ sum-bound ws src at row (suc n) h p q =
     (q n (le-refl (suc n))) (p n (le-refl (suc n)))
 
 -- ---- a window's columns
-module _ (ws src : List Float) (at row cols : ℕ) (g : Good ws src at row cols) where
+module _ (ws src : List Float) (at row cols : ℕ) (g : Summable ws src at row cols) where
   swap : (A K t : ℕ) → A + t + K ≡ A + K + t
   swap A K t = omega arith
 
@@ -65,7 +65,7 @@ module _ (ws src : List Float) (at row cols : ℕ) (g : Good ws src at row cols)
       (sum-bound ws src (at + t) row (length ws) (g .few) (g .heavy) (λ k h. light-at k t h l))
 
   -- some of them
-  pub good-part : (j n : ℕ) → j + n ≤ cols → Good ws src (at + j) row n
+  pub good-part : (j n : ℕ) → j + n ≤ cols → Summable ws src (at + j) row n
   good-part j n h = record {
     few = g .few;
     rows = g .rows;
@@ -83,7 +83,7 @@ module _ (ws src : List Float) (at row cols : ℕ) (g : Good ws src at row cols)
       inner : (j n t : ℕ) → j + n ≤ cols → t < n → j + t < cols
       inner j n t h u = omega arith
 
-pub good-one : (ws src : List Float) (at row : ℕ) → Good ws src at row 1 → AtMost (columnSum ws src at row (length ws)) (2 ^ 205)
+pub good-one : (ws src : List Float) (at row : ℕ) → Summable ws src at row 1 → AtMost (columnSum ws src at row (length ws)) (2 ^ 205)
 good-one ws src at row g = subst (λ (z : ℕ). AtMost (columnSum ws src z row (length ws)) (2 ^ 205)) (zero-right at) (good-bound ws src at row 1 g 0 (lit< tt))
   where
     zero-right : (a : ℕ) → a + 0 ≡ a

@@ -1,4 +1,4 @@
--- What the premises of `rows` give at one window: `Turn` of `vertical`, and that the window's weights and samples are small enough. Assumes nothing.
+-- What the premises of `rows` give at one window: `WindowThere` of `vertical`, and that the window's weights and samples are small enough. Assumes nothing.
 use mathlib.Core.Path.{_≡_, sym, ap, _∙_, subst}
 use mathlib.Core.List.{List}
 use Prim.Native.Nat.{ℕ, _+_, _*_, _^_, _<_}
@@ -9,18 +9,18 @@ use lib.Seq.{getD-take, getD-drop}
 use lib.Ieee.{Float, nan}
 use Rattle.floats.specs.Within.{AtMost}
 use Rattle.vertical.specs.Ready.{Ready}
-use Rattle.vertical.proofs.Turns.{Turn, turn-at}
-use Rattle.vertical_f32.specs.Column.{Good}
-use Rattle.vertical_f32.specs.Scan.{Lights, Weights}
+use Rattle.vertical.proofs.Turns.{WindowThere, window-there}
+use Rattle.vertical_f32.specs.Column.{Summable}
+use Rattle.vertical_f32.specs.Scan.{SmallSamples, SmallWeights}
 
 module _ (src : List Float) (row first count : ℕ) (starts sizes : List ℕ) (window : ℕ) (weights : List Float) (room : ℕ)
-    (r : Ready (length src) row first count starts sizes window (length weights) room) (heavy : Weights starts sizes window weights) (light : Lights src row first count starts sizes)
+    (r : Ready (length src) row first count starts sizes window (length weights) room) (heavy : SmallWeights starts sizes window weights) (light : SmallSamples src row first count starts sizes)
     (i : ℕ) (h : i < length starts) where
-  pub turn-here : Turn (length src) row first count starts sizes window (length weights) room i
-  turn-here = turn-at (length src) row first count starts sizes window (length weights) room r i h
+  pub there-here : WindowThere (length src) row first count starts sizes window (length weights) room i
+  there-here = window-there (length src) row first count starts sizes window (length weights) room r i h
 
   long : length (take (getD sizes i 0) (drop (i * window) weights)) ≡ getD sizes i 0
-  long = simp (length-take, length-drop) (omega (arith, turn-here .weights))
+  long = simp (length-take, length-drop) (omega (arith, there-here .weights))
 
   swap : (A K f t : ℕ) → A + K + f + t ≡ A + f + K + t
   swap A K f t = omega arith
@@ -34,11 +34,11 @@ module _ (src : List Float) (row first count : ℕ) (starts sizes : List ℕ) (w
   inside : (k : ℕ) → k < length (take (getD sizes i 0) (drop (i * window) weights)) → k < getD sizes i 0
   inside k g = subst (λ (n : ℕ). k < n) long g
 
-  pub good-here : Good (take (getD sizes i 0) (drop (i * window) weights)) src (getD starts i 0 * row + first) row count
-  good-here = record {
-    few = omega (arith, long, turn-here .few);
+  pub summable-here : Summable (take (getD sizes i 0) (drop (i * window) weights)) src (getD starts i 0 * row + first) row count
+  summable-here = record {
+    few = omega (arith, long, there-here .few);
     rows = r .narrow;
-    there = λ k g. turn-here .lines k (inside k g);
+    there = λ k g. there-here .lines k (inside k g);
     heavy = λ k g. subst (λ (x : Float). AtMost x (2 ^ 64)) (sym (weight k (inside k g))) (heavy i h k (inside k g));
     light = λ k t g u. subst (λ (y : ℕ). AtMost (getD src y nan) (2 ^ 128)) (here k t) (light i h k (inside k g) t u);
   }

@@ -11,7 +11,7 @@ use Rattle.lists.specs.Tab.{turns}
 use Rattle.numbers.specs.Whole.{narrow}
 use Rattle.windows.specs.Set.{Set, size, start, weight, sample}
 use Rattle.vertical.specs.Frame.{frame}
-use Rattle.vertical.specs.F32.{valueAt32}
+use Rattle.vertical.specs.F32.{valueF32}
 use Rattle.vertical_f32.specs.Column.{columnSum, windowValue}
 
 -- the sum over a slice is the sum of the terms, where weights and samples agree
@@ -21,7 +21,7 @@ sum-is ws src at row w s zero hw hs = refl
 sum-is ws src at row w s (suc n) hw hs =
     rw (sum-is ws src at row w s n (λ k l. hw k (omega arith)) (λ k l. hs k (omega arith)), hw n (omega arith), hs n (omega arith))
 
-pub value-is : (s : Set Float) (src : List Float) (row first i j : ℕ) → windowValue src row first (s .layout .starts) (s .layout .sizes) (s .layout .windowSize) (s .weights) i j ≡ valueAt32 s (frame nan src row) i (first + j)
+pub value-is : (s : Set Float) (src : List Float) (row first i j : ℕ) → windowValue src row first (s .layout .starts) (s .layout .sizes) (s .layout .windowSize) (s .weights) i j ≡ valueF32 s (frame nan src row) i (first + j)
 value-is s src row first i j =
     ap narrow
     (sum-is (take (size (s .layout) i) (drop (i * s .layout .windowSize) (s .weights))) src (start (s .layout) i * row + first + j) row (weight s nan i) (sample (s .layout) (frame nan src row) i (first + j)) (size (s .layout) i)

@@ -22,7 +22,7 @@ windowValue src row first starts sizes window weights i j =
     columnValue (take (getD sizes i 0) (drop (i * window) weights)) src (getD starts i 0 * row + first + j) row (getD sizes i 0)
 
 -- a window's weights over `cols` columns from `at` on: all are there, weights are at most 2^64 and samples at most 2^128 in size
-pub record Good (ws src : List Float) (at row cols : ℕ) : Type 0 where
+pub record Summable (ws src : List Float) (at row cols : ℕ) : Type 0 where
   pub few : length ws ≤ 8192
   pub rows : row ≤ 32768
   pub there : (k : ℕ) → k < length ws → at + k * row + cols ≤ length src

@@ -34,12 +34,12 @@ abbrev pub Finite : List Float → ℕ → ℕ → ℕ → Type 0
 Finite src at a e = (t : ℕ) → a ≤ t → t < e → T (finite (getD src (at + t) nan))
 
 -- every sample in use is finite; as the sums need them, at most 2^128 in size
-abbrev pub Samples : List Float → ℕ → ℕ → ℕ → List ℕ → List ℕ → Type 0
-Samples src row first count starts sizes = (i : ℕ) → i < length starts → (k : ℕ) → k < getD sizes i 0 → (j : ℕ) → j < count → T (finite (getD src ((getD starts i 0 + k) * row + first + j) nan))
+abbrev pub FiniteSamples : List Float → ℕ → ℕ → ℕ → List ℕ → List ℕ → Type 0
+FiniteSamples src row first count starts sizes = (i : ℕ) → i < length starts → (k : ℕ) → k < getD sizes i 0 → (j : ℕ) → j < count → T (finite (getD src ((getD starts i 0 + k) * row + first + j) nan))
 
-abbrev pub Lights : List Float → ℕ → ℕ → ℕ → List ℕ → List ℕ → Type 0
-Lights src row first count starts sizes = (i : ℕ) → i < length starts → (k : ℕ) → k < getD sizes i 0 → (j : ℕ) → j < count → AtMost (getD src ((getD starts i 0 + k) * row + first + j) nan) (2 ^ 128)
+abbrev pub SmallSamples : List Float → ℕ → ℕ → ℕ → List ℕ → List ℕ → Type 0
+SmallSamples src row first count starts sizes = (i : ℕ) → i < length starts → (k : ℕ) → k < getD sizes i 0 → (j : ℕ) → j < count → AtMost (getD src ((getD starts i 0 + k) * row + first + j) nan) (2 ^ 128)
 
 -- every weight in use is at most 2^64 in size
-abbrev pub Weights : List ℕ → List ℕ → ℕ → List Float → Type 0
-Weights starts sizes window weights = (i : ℕ) → i < length starts → (k : ℕ) → k < getD sizes i 0 → AtMost (getD weights (i * window + k) nan) (2 ^ 64)
+abbrev pub SmallWeights : List ℕ → List ℕ → ℕ → List Float → Type 0
+SmallWeights starts sizes window weights = (i : ℕ) → i < length starts → (k : ℕ) → k < getD sizes i 0 → AtMost (getD weights (i * window + k) nan) (2 ^ 64)

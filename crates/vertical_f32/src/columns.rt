@@ -8,11 +8,11 @@ ghost use lib.ListN.{length, getD};
 ghost use lib.Ieee.{nan};
 ghost use Rattle.floats.specs.Within.{AtMost};
 ghost use Rattle.numbers.specs.Whole.{narrow as narrowOf};
-ghost use Rattle.vertical_f32.specs.Column.{columnValue, Good};
+ghost use Rattle.vertical_f32.specs.Column.{columnValue, Summable};
 
 // One column's value.
 fn pixel(src: &[f32], row: usize, at: usize, ws: &[f64]) -> f32
-    requires { ⌜ Good (now ws) (now src) at row 1 ⌝ }
+    requires { ⌜ Summable (now ws) (now src) at row 1 ⌝ }
     ensures { λ r. ⌜ r ≡ columnValue (now (ws .entry)) (now (src .entry)) at row (length (now (ws .entry))) ⌝ }
 {
     narrow(sum(src, row, at, ws))
@@ -34,7 +34,7 @@ fn put16(ss: [f64; 16], out: &mut [f32], j: usize)
 
 // The columns from `from` on, one by one.
 fn tail(src: &[f32], row: usize, at0: usize, ws: &[f64], out: &mut [f32], from: usize)
-    requires { ⌜ Good (now ws) (now src) at0 row (length (now out)) ⌝ }
+    requires { ⌜ Summable (now ws) (now src) at0 row (length (now out)) ⌝ }
     requires { ⌜ at0 + length (now out) < 2 ^ 63 ⌝ }
     requires { ⌜ from ≤ length (now out) ⌝ }
     ensures { λ _. ⌜ ((j : ℕ) → from ≤ j → j < length (now (out .entry)) → getD (now (out .exit)) j nan ≡ columnValue (now (ws .entry)) (now (src .entry)) (at0 + j) row (length (now (ws .entry)))) ⌝ }
@@ -49,7 +49,7 @@ fn tail(src: &[f32], row: usize, at0: usize, ws: &[f64], out: &mut [f32], from: 
 
 // One window's row, for the columns that `out` has.
 pub(crate) fn fill(src: &[f32], row: usize, at0: usize, ws: &[f64], out: &mut [f32])
-    requires { ⌜ Good (now ws) (now src) at0 row (length (now out)) ⌝ }
+    requires { ⌜ Summable (now ws) (now src) at0 row (length (now out)) ⌝ }
     requires { ⌜ at0 + length (now out) < 2 ^ 63 ⌝ }
     ensures { λ _. ⌜ ((j : ℕ) → j < length (now (out .entry)) → getD (now (out .exit)) j nan ≡ columnValue (now (ws .entry)) (now (src .entry)) (at0 + j) row (length (now (ws .entry)))) ⌝ }
 {

@@ -5,8 +5,8 @@ ghost use Prim.Native.Nat.{ℕ, _+_, _*_, _^_, _<_, _≤_};
 ghost use lib.ListN.{length, getD, take, drop};
 ghost use lib.Ieee.{nan};
 ghost use Rattle.vertical.specs.Ready.{Ready};
-ghost use Rattle.vertical_f32.specs.Column.{columnValue, windowValue, Good};
-ghost use Rattle.vertical_f32.specs.Scan.{Lights, Weights};
+ghost use Rattle.vertical_f32.specs.Column.{columnValue, windowValue, Summable};
+ghost use Rattle.vertical_f32.specs.Scan.{SmallSamples, SmallWeights};
 
 pub(crate) fn wide(x: u32) -> usize
     ensures { λ r. ⌜ r ≡ x ⌝ }
@@ -27,7 +27,7 @@ fn place(
     count: usize,
 )
     requires { ⌜ (at + count < 2 ^ 63) × (a + size ≤ length (now ws)) × (o + count ≤ length (now out)) ⌝ }
-    requires { ⌜ Good (take size (drop a (now ws))) (now src) at row count ⌝ }
+    requires { ⌜ Summable (take size (drop a (now ws))) (now src) at row count ⌝ }
     ensures { λ _. ⌜ ((t : ℕ) → t < count → getD (now (out .exit)) (o + t) nan ≡ columnValue (take size (drop a (now (ws .entry)))) (now (src .entry)) (at + t) row size) ⌝ }
     ensures { λ _. ⌜ ((x : ℕ) → x < o → getD (now (out .exit)) x nan ≡ getD (now (out .entry)) x nan) ⌝ }
 {
@@ -49,8 +49,8 @@ pub(crate) fn rows(
     out: &mut [f32],
 )
     requires { ⌜ Ready (length (now src)) row first count (now starts) (now sizes) window (length (now weights)) (length (now out)) ⌝ }
-    requires { ⌜ Weights (now starts) (now sizes) window (now weights) ⌝ }
-    requires { ⌜ Lights (now src) row first count (now starts) (now sizes) ⌝ }
+    requires { ⌜ SmallWeights (now starts) (now sizes) window (now weights) ⌝ }
+    requires { ⌜ SmallSamples (now src) row first count (now starts) (now sizes) ⌝ }
     ensures { λ _. ⌜ ((i : ℕ) → i < length (now (starts .entry)) → (j : ℕ) → j < count → getD (now (out .exit)) (i * count + j) nan ≡ windowValue (now (src .entry)) row first (now (starts .entry)) (now (sizes .entry)) window (now (weights .entry)) i j) ⌝ }
 {
     let mut i: usize = 0;

@@ -9,7 +9,7 @@ ghost use mathlib.Core.Bool.{true, false};
 ghost use Prim.Native.Nat.{ℕ, _+_, _*_, _<_, _≤_};
 ghost use lib.Dec.{T};
 ghost use lib.ListN.{length, getD};
-ghost use Rattle.vertical_f32.specs.Scan.{isZero, flag, Small, Finite, Samples, Lights};
+ghost use Rattle.vertical_f32.specs.Scan.{isZero, flag, Small, Finite, FiniteSamples, SmallSamples};
 
 // The columns from `from` on of one line, in one lane.
 fn rest(z0: f32, src: &[f32], at: usize, from: usize, count: usize) -> f32
@@ -88,8 +88,8 @@ pub(crate) fn samples_fit(
     requires { ⌜ (row ≤ 32768) × (first + count ≤ row) × (length (now starts) ≡ length (now sizes)) ⌝ }
     requires { ⌜ ((i : ℕ) → i < length (now starts) → getD (now starts) i 0 + getD (now sizes) i 0 ≤ 8192) ⌝ }
     requires { ⌜ ((i : ℕ) → i < length (now starts) → (getD (now starts) i 0 + getD (now sizes) i 0) * row ≤ length (now src)) ⌝ }
-    ensures { λ r. ⌜ (r ≡ true → Lights (now (src .entry)) row first count (now (starts .entry)) (now (sizes .entry))) ⌝ }
-    ensures { λ r. ⌜ (r ≡ false → Samples (now (src .entry)) row first count (now (starts .entry)) (now (sizes .entry)) → ⊥) ⌝ }
+    ensures { λ r. ⌜ (r ≡ true → SmallSamples (now (src .entry)) row first count (now (starts .entry)) (now (sizes .entry))) ⌝ }
+    ensures { λ r. ⌜ (r ≡ false → FiniteSamples (now (src .entry)) row first count (now (starts .entry)) (now (sizes .entry)) → ⊥) ⌝ }
 {
     let n = count / 16;
     let mut zz: [f32; 16] = [0.0; 16];

@@ -5,7 +5,7 @@ ghost use Prim.Native.Nat.{ℕ, _+_, _<_, _≤_};
 ghost use lib.Dec.{T};
 ghost use lib.ListN.{length, getD};
 ghost use lib.Ieee.{binary64, nan, add, mul, isNan};
-ghost use Rattle.vertical_f32.specs.Column.{columnSum, Good, Sums16};
+ghost use Rattle.vertical_f32.specs.Column.{columnSum, Summable, Sums16};
 
 fn widen(x: f32) -> f64
     requires { ⌜ T (not (isNan x)) ⌝ }
@@ -24,7 +24,7 @@ fn step(acc: f64, w: f64, s: f32) -> f64
 
 // One column's sum.
 pub(crate) fn sum(src: &[f32], row: usize, at0: usize, ws: &[f64]) -> f64
-    requires { ⌜ Good (now ws) (now src) at0 row 1 ⌝ }
+    requires { ⌜ Summable (now ws) (now src) at0 row 1 ⌝ }
     ensures { λ r. ⌜ r ≡ columnSum (now (ws .entry)) (now (src .entry)) at0 row (length (now (ws .entry))) ⌝ }
 {
     let mut acc: f64 = 0.0;
@@ -40,7 +40,7 @@ pub(crate) fn sum(src: &[f32], row: usize, at0: usize, ws: &[f64]) -> f64
 
 // Sixteen sums of k lines, and line k more.
 fn add16(ss: [f64; 16], src: &[f32], row: usize, at0: usize, ws: &[f64], k: usize) -> [f64; 16]
-    requires { ⌜ Good (now ws) (now src) at0 row 16 ⌝ }
+    requires { ⌜ Summable (now ws) (now src) at0 row 16 ⌝ }
     requires { ⌜ k < length (now ws) ⌝ }
     requires { ⌜ Sums16 ss (now ws) (now src) at0 row k ⌝ }
     ensures { λ r. ⌜ Sums16 r (now (ws .entry)) (now (src .entry)) at0 row (k + 1) ⌝ }
@@ -58,7 +58,7 @@ fn add16(ss: [f64; 16], src: &[f32], row: usize, at0: usize, ws: &[f64], k: usiz
 
 // Four lines more.
 fn add_four16(ss: [f64; 16], src: &[f32], row: usize, at0: usize, ws: &[f64], k: usize) -> [f64; 16]
-    requires { ⌜ Good (now ws) (now src) at0 row 16 ⌝ }
+    requires { ⌜ Summable (now ws) (now src) at0 row 16 ⌝ }
     requires { ⌜ k + 4 ≤ length (now ws) ⌝ }
     requires { ⌜ Sums16 ss (now ws) (now src) at0 row k ⌝ }
     ensures { λ r. ⌜ Sums16 r (now (ws .entry)) (now (src .entry)) at0 row (k + 4) ⌝ }
@@ -71,7 +71,7 @@ fn add_four16(ss: [f64; 16], src: &[f32], row: usize, at0: usize, ws: &[f64], k:
 
 // Sixteen sums of the first n lines, line by line.
 fn first16(src: &[f32], row: usize, at0: usize, ws: &[f64], n: usize) -> [f64; 16]
-    requires { ⌜ Good (now ws) (now src) at0 row 16 ⌝ }
+    requires { ⌜ Summable (now ws) (now src) at0 row 16 ⌝ }
     requires { ⌜ n ≤ length (now ws) ⌝ }
     ensures { λ r. ⌜ Sums16 r (now (ws .entry)) (now (src .entry)) at0 row n ⌝ }
 {
@@ -87,7 +87,7 @@ fn first16(src: &[f32], row: usize, at0: usize, ws: &[f64], n: usize) -> [f64; 1
 
 // The sums of sixteen columns: first the one to three lines that four does not divide, if any, then four a turn, so that few instructions go to the turns.
 pub(crate) fn sums16(src: &[f32], row: usize, at0: usize, ws: &[f64]) -> [f64; 16]
-    requires { ⌜ Good (now ws) (now src) at0 row 16 ⌝ }
+    requires { ⌜ Summable (now ws) (now src) at0 row 16 ⌝ }
     ensures { λ r. ⌜ ((t : ℕ) → t < 16 → getD r t nan ≡ columnSum (now (ws .entry)) (now (src .entry)) (at0 + t) row (length (now (ws .entry)))) ⌝ }
 {
     let mut k = ws.len() % 4;

@@ -6,7 +6,7 @@ ghost use Prim.Native.Nat.{ℕ, _+_, _*_, _^_, _<_, _≤_};
 ghost use lib.ListN.{length, getD};
 ghost use lib.Ieee.{nan};
 ghost use Rattle.floats.specs.Within.{AtMost};
-ghost use Rattle.vertical_f32.specs.Scan.{Weights};
+ghost use Rattle.vertical_f32.specs.Scan.{SmallWeights};
 
 // Whether one weight is at most 2^64 in size. A NaN fails the first test.
 fn weight_fits(w: f64) -> bool
@@ -39,8 +39,8 @@ fn window_fits(ws: &[f64], a: usize, size: usize) -> bool
 pub(crate) fn weights_fit(ws: &[f64], starts: &[u32], sizes: &[u32], window: usize) -> bool
     requires { ⌜ (length (now starts) ≡ length (now sizes)) × (length (now ws) ≡ length (now starts) * window) × (length (now starts) ≤ 8192) × (window ≤ 32769) ⌝ }
     requires { ⌜ ((i : ℕ) → i < length (now starts) → getD (now sizes) i 0 ≤ window) ⌝ }
-    ensures { λ r. ⌜ (r ≡ true → Weights (now (starts .entry)) (now (sizes .entry)) window (now (ws .entry))) ⌝ }
-    ensures { λ r. ⌜ (r ≡ false → Weights (now (starts .entry)) (now (sizes .entry)) window (now (ws .entry)) → ⊥) ⌝ }
+    ensures { λ r. ⌜ (r ≡ true → SmallWeights (now (starts .entry)) (now (sizes .entry)) window (now (ws .entry))) ⌝ }
+    ensures { λ r. ⌜ (r ≡ false → SmallWeights (now (starts .entry)) (now (sizes .entry)) window (now (ws .entry)) → ⊥) ⌝ }
 {
     let mut i: usize = 0;
     while i < starts.len() {

@@ -14,7 +14,7 @@ use mir.Syntax.{w64}
 use mir.Val.{SFits, toZ, ofZ}
 use Rattle.integers.specs.Sums.{sum}
 use Rattle.integers.proofs.Parts.{add-size, scale-size, mag-size}
-use Rattle.vertical_u16.specs.Column.{columnSum}
+use Rattle.vertical.specs.Column.{columnSum}
 
 -- ---- sizes
 

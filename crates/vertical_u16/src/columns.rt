@@ -1,56 +1,98 @@
-// One window's row: sixteen columns at a time, then the rest one by one.
+// One window's row: sixteen columns side by side, then four, then one.
 use super::arithmetic::clip;
 use super::arithmetic::half;
-use super::sums::sum;
-use super::sums::sums16;
+use super::doubles;
+use super::rounding;
+use super::sums::column_sums;
 ghost use mathlib.Core.Path.{_≡_};
 ghost use Prim.Native.Nat.{ℕ, _+_, _*_, _^_, _<_, _≤_};
-ghost use lib.IntN.{pos};
-ghost use lib.ListN.{length, getD};
-ghost use lib.Signed.{shrZ};
-ghost use Rattle.integers.specs.Sums.{clipped};
-ghost use Rattle.vertical_u16.specs.Column.{columnValue};
+ghost use lib.ListN.{length};
+ghost use Rattle.lists.specs.Tab.{tab, front};
+ghost use Rattle.vertical.specs.Column.{rowValue};
+ghost use Rattle.vertical_u16.specs.Chunks.{clippedAt};
 
-// One column's value.
-fn pixel(src: &[u16], row: usize, at: usize, ws: &[i32], p: u32) -> u16
-    requires { ⌜ (1 ≤ p) × (p ≤ 45) ⌝ }
-    requires { ⌜ row ≤ 32768 ⌝ }
-    requires { ⌜ length (now ws) ≤ 8192 ⌝ }
-    requires { ⌜ ((k : ℕ) → k < length (now ws) → at + k * row < length (now src)) ⌝ }
-    ensures { λ r. ⌜ r ≡ columnValue (now (ws .entry)) (now (src .entry)) at row (length (now (ws .entry))) p ⌝ }
-{
-    clip(sum(half(p), src, row, at, ws), p)
-}
-
-// Sixteen sums made samples, from column j on.
-fn put16(ss: [i64; 16], p: u32, out: &mut [u16], j: usize)
+// As many of sixteen sums made samples as `out` has places for.
+fn put_columns(ss: [i64; 16], p: u32, out: &mut [u16])
     requires { ⌜ p < 64 ⌝ }
-    requires { ⌜ j + 16 ≤ length (now out) ⌝ }
-    ensures { λ _. ⌜ ((t : ℕ) → t < 16 → getD (now (out .exit)) (j + t) 0 ≡ clipped 65535 (shrZ (getD ss t (pos 0)) (2 ^ p))) ⌝ }
-    ensures { λ _. ⌜ ((x : ℕ) → x < j → getD (now (out .exit)) x 0 ≡ getD (now (out .entry)) x 0) ⌝ }
+    requires { ⌜ length (now out) ≤ 16 ⌝ }
+    ensures { λ _. ⌜ now (out .exit) ≡ tab 0 (length (now (out .entry))) (clippedAt ss p) ⌝ }
 {
     let mut t: usize = 0;
-    while t < 16 {
-        out[j + t] = clip(ss[t], p);
+    while t < out.len() {
+        out[t] = clip(ss[t], p);
         t = t + 1;
     }
 }
 
-// The columns from `from` on, one by one.
-fn tail(src: &[u16], row: usize, at0: usize, ws: &[i32], p: u32, out: &mut [u16], from: usize)
+// The columns from `from` on in integers, n side by side as long as n are left; the first column that is left. What stands before `from` is done.
+fn chunks(
+    n: usize,
+    src: &[u16],
+    row: usize,
+    at0: usize,
+    ws: &[i32],
+    p: u32,
+    out: &mut [u16],
+    from: usize,
+) -> usize
+    requires { ⌜ (1 ≤ n) × (n ≤ 16) ⌝ }
     requires { ⌜ (1 ≤ p) × (p ≤ 45) ⌝ }
     requires { ⌜ row ≤ 32768 ⌝ }
     requires { ⌜ length (now ws) ≤ 8192 ⌝ }
     requires { ⌜ ((k : ℕ) → k < length (now ws) → at0 + k * row + length (now out) ≤ length (now src)) ⌝ }
     requires { ⌜ at0 + length (now out) < 2 ^ 63 ⌝ }
     requires { ⌜ from ≤ length (now out) ⌝ }
-    ensures { λ _. ⌜ ((j : ℕ) → from ≤ j → j < length (now (out .entry)) → getD (now (out .exit)) j 0 ≡ columnValue (now (ws .entry)) (now (src .entry)) (at0 + j) row (length (now (ws .entry))) p) ⌝ }
-    ensures { λ _. ⌜ ((j : ℕ) → j < from → getD (now (out .exit)) j 0 ≡ getD (now (out .entry)) j 0) ⌝ }
+    requires { ⌜ now out ≡ front from (rowValue 65535 p (now ws) (now src) at0 row (length (now ws))) (now out) ⌝ }
+    ensures { λ r. ⌜ (from ≤ r) × (r ≤ length (now (out .entry))) × (length (now (out .entry)) < r + n) ⌝ }
+    ensures { λ r. ⌜ now (out .exit) ≡ front r (rowValue 65535 p (now (ws .entry)) (now (src .entry)) at0 row (length (now (ws .entry)))) (now (out .entry)) ⌝ }
 {
+    let init = half(p);
     let mut j = from;
-    while j < out.len() {
-        out[j] = pixel(src, row, at0 + j, ws, p);
-        j = j + 1;
+    while n <= out.len() - j {
+        let e = j + n;
+        let ss = column_sums(init, n, src, row, at0 + j, ws);
+        put_columns(ss, p, &mut out[j..e]);
+        j = e;
+    }
+    j
+}
+
+// Sixteen columns side by side in doubles, in which the sums of up to 32 lines are exact; the first column that is left.
+fn short_chunks(src: &[u16], row: usize, at0: usize, ws: &[i32], p: u32, out: &mut [u16]) -> usize
+    requires { ⌜ (1 ≤ p) × (p ≤ 45) ⌝ }
+    requires { ⌜ row ≤ 32768 ⌝ }
+    requires { ⌜ length (now ws) ≤ 32 ⌝ }
+    requires { ⌜ ((k : ℕ) → k < length (now ws) → at0 + k * row + length (now out) ≤ length (now src)) ⌝ }
+    requires { ⌜ at0 + length (now out) < 2 ^ 63 ⌝ }
+    ensures { λ r. ⌜ r ≤ length (now (out .entry)) ⌝ }
+    ensures { λ r. ⌜ now (out .exit) ≡ front r (rowValue 65535 p (now (ws .entry)) (now (src .entry)) at0 row (length (now (ws .entry)))) (now (out .entry)) ⌝ }
+{
+    let top = rounding::scaled(0x40ef_ffe0_0000_0000, p);
+    let big = rounding::scaled(0x4330_0000_0000_0000, p);
+    let mut j: usize = 0;
+    while 16 <= out.len() - j {
+        let e = j + 16;
+        let ss = doubles::sums16(src, row, at0 + j, ws);
+        rounding::put16(ss, top, big, &mut out[j..e]);
+        j = e;
+    }
+    j
+}
+
+// Sixteen columns side by side, in doubles where they are exact; the first column that is left.
+fn sixteens(src: &[u16], row: usize, at0: usize, ws: &[i32], p: u32, out: &mut [u16]) -> usize
+    requires { ⌜ (1 ≤ p) × (p ≤ 45) ⌝ }
+    requires { ⌜ row ≤ 32768 ⌝ }
+    requires { ⌜ length (now ws) ≤ 8192 ⌝ }
+    requires { ⌜ ((k : ℕ) → k < length (now ws) → at0 + k * row + length (now out) ≤ length (now src)) ⌝ }
+    requires { ⌜ at0 + length (now out) < 2 ^ 63 ⌝ }
+    ensures { λ r. ⌜ r ≤ length (now (out .entry)) ⌝ }
+    ensures { λ r. ⌜ now (out .exit) ≡ front r (rowValue 65535 p (now (ws .entry)) (now (src .entry)) at0 row (length (now (ws .entry)))) (now (out .entry)) ⌝ }
+{
+    if ws.len() <= 32 {
+        short_chunks(src, row, at0, ws, p, out)
+    } else {
+        chunks(16, src, row, at0, ws, p, out, 0)
     }
 }
 
@@ -61,14 +103,9 @@ pub(crate) fn fill(src: &[u16], row: usize, at0: usize, ws: &[i32], p: u32, out:
     requires { ⌜ length (now ws) ≤ 8192 ⌝ }
     requires { ⌜ ((k : ℕ) → k < length (now ws) → at0 + k * row + length (now out) ≤ length (now src)) ⌝ }
     requires { ⌜ at0 + length (now out) < 2 ^ 63 ⌝ }
-    ensures { λ _. ⌜ ((j : ℕ) → j < length (now (out .entry)) → getD (now (out .exit)) j 0 ≡ columnValue (now (ws .entry)) (now (src .entry)) (at0 + j) row (length (now (ws .entry))) p) ⌝ }
+    ensures { λ _. ⌜ now (out .exit) ≡ tab 0 (length (now (out .entry))) (rowValue 65535 p (now (ws .entry)) (now (src .entry)) at0 row (length (now (ws .entry)))) ⌝ }
 {
-    let init = half(p);
-    let mut j: usize = 0;
-    while 16 <= out.len() - j {
-        let ss = sums16(init, src, row, at0 + j, ws);
-        put16(ss, p, out, j);
-        j = j + 16;
-    }
-    tail(src, row, at0, ws, p, out, j);
+    let a = sixteens(src, row, at0, ws, p, out);
+    let b = chunks(4, src, row, at0, ws, p, out, a);
+    let _ = chunks(1, src, row, at0, ws, p, out, b);
 }

@@ -1,12 +1,16 @@
-// `vertical_u16`: the vertical pass over u16 samples with i32 weights, as `passed16` and `written16` of `vertical` say. Counterpart of vertical_u16/native.rs.
-// The judge answers before anything is written; `rows` then fills the output window by window, `columns` sixteen columns at a time.
+// `vertical_u16`: the vertical pass over u16 samples with i32 weights, as `passedU16` and `writtenU16` of `vertical` say. Counterpart of vertical_u16/native.rs.
+// The judge answers before anything is written; `rows` then fills the output window by window, `columns` sixteen columns at a time, with sums in doubles up to 32
+// lines, which are exact there, and in integers beyond; then four columns at a time and one by one.
 mod arithmetic;
 mod columns;
+mod doubles;
+mod rounding;
 mod rows;
 mod sums;
 
 use refusal::Refusal;
 use rows::rows;
+use vertical::Frame;
 use vertical::Passed;
 use vertical::shape_fits;
 use vertical::size_fits;
@@ -15,15 +19,12 @@ use windows::precision_fits;
 ghost use mathlib.Core.Path.{_≡_};
 ghost use lib.ListN.{length};
 ghost use Rattle.windows.specs.Set.{layoutOf, setOf, storedOf};
-ghost use Rattle.vertical.specs.U16.{passed16, written16};
+ghost use Rattle.vertical.specs.U16.{passedU16, writtenU16};
 
 // The value of every window at every column of the range, in `out`; refused with `out` unchanged exactly where document 01 says so.
 pub fn vert_convolution_u16(
     src: &[u16],
-    lines: u32,
-    row: u32,
-    first: u32,
-    count: u32,
+    frame: Frame,
     weights: &[i32],
     starts: &[u32],
     sizes: &[u32],
@@ -31,18 +32,15 @@ pub fn vert_convolution_u16(
     precision: u32,
     out: &mut [u16],
 ) -> Passed
-    ensures answer { λ r. ⌜ r ≡ passed16 (storedOf (setOf (layoutOf lines «window_size» (now (starts .entry)) (now (sizes .entry))) (now (weights .entry))) precision) (now (src .entry)) row first count (length (now (out .entry))) ⌝ }
-    ensures written { λ _. ⌜ now (out .exit) ≡ written16 (storedOf (setOf (layoutOf lines «window_size» (now (starts .entry)) (now (sizes .entry))) (now (weights .entry))) precision) (now (src .entry)) row first count (now (out .entry)) ⌝ }
+    ensures answer { λ r. ⌜ r ≡ passedU16 (storedOf (setOf (layoutOf (frame .lines) «window_size» (now (starts .entry)) (now (sizes .entry))) (now (weights .entry))) precision) (length (now (src .entry))) (frame .row) (frame .first) (frame .count) (length (now (out .entry))) ⌝ }
+    ensures written { λ _. ⌜ now (out .exit) ≡ writtenU16 (storedOf (setOf (layoutOf (frame .lines) «window_size» (now (starts .entry)) (now (sizes .entry))) (now (weights .entry))) precision) (now (src .entry)) (frame .row) (frame .first) (frame .count) (now (out .entry)) ⌝ }
 {
-    if !size_fits(lines, starts.len(), row) {
+    if !size_fits(frame, starts.len()) {
         return Passed::Refused(Refusal::BadSide);
     }
     if !shape_fits(
+        frame,
         src.len(),
-        lines,
-        row,
-        first,
-        count,
         window_size,
         weights.len(),
         starts,
@@ -56,9 +54,9 @@ pub fn vert_convolution_u16(
     }
     rows(
         src,
-        row as usize,
-        first as usize,
-        count as usize,
+        frame.row as usize,
+        frame.first as usize,
+        frame.count as usize,
         weights,
         starts,
         sizes,

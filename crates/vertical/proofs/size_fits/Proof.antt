@@ -11,12 +11,12 @@ sides-fit-requires c κs = search needs
 returns : tie.Need-returns
 returns c =
     let a = c .before .before .args in
-    rw (asked-bad (badSides (a .lines) (a .windows)) (c .before .sides-fit .ensures) (c .if1 .taken))
+    rw (asked-bad (badSides (a .frame .lines) (a .windows)) (c .before .sides-fit .ensures) (c .if1 .taken))
 
 returns-2 : tie.Need-returns-2
 returns-2 c =
-    let a = c .before .before .args in
-    rw (asked-good (badSides (a .lines) (a .windows)) (c .before .sides-fit .ensures) (c .if1 .left))
+    let e = c .before .before in
+    rw (asked-good (badSides (e .before .before .args .frame .lines) (e .before .before .args .windows)) (e .before .sides-fit .ensures) (e .if1 .left))
 
 pub size-fits-spec : {M : Type 1} → statement M
 size-fits-spec = tie.close (tie.spec sides-fit-requires returns returns-2)

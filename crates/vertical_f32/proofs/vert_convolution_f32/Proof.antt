@@ -7,8 +7,8 @@ use Rattle.lists.proofs.BoolLaws.{asked-bad, asked-good}
 use Rattle.vertical.proofs.Answers.{shaped}
 use Rattle.vertical.proofs.Turns.{ready}
 use Rattle.vertical.specs.F32.{badWeights, badSamples}
-use Rattle.vertical.specs.Frame.{sizeBad, shapeBad}
-use Rattle.windows.specs.Set.{Set, layoutOf, setOf}
+use Rattle.vertical.specs.Frame.{badSize, badShape}
+use Rattle.windows.specs.Set.{Set, layoutOf, setOf, windows}
 use Rattle.vertical_f32.proofs.Flags.{weights-said, samples-said}
 use Rattle.vertical_f32.proofs.Judged.{bad-size, bad-shape, bad-weights, bad-samples, done}
 use Rattle.vertical_f32.proofs.vert_convolution_f32.Statement.{statement}
@@ -20,8 +20,8 @@ size-fits-requires c κs = search needs
 returns : tie.Need-returns
 returns c =
     let a = c .before .before .before .before .before .before .before .args in
-    let s : Set Float = setOf (layoutOf (a .lines) (a .window-size) (a .starts .now) (a .sizes .now)) (a .weights .now) in
-    bad-size s (a .src .now) (a .row) (a .first) (a .count) (a .out .now) (asked-bad (sizeBad s (a .row)) (c .before .size-fits .ensures) (c .if1 .taken))
+    let s : Set Float = setOf (layoutOf (a .frame .lines) (a .window-size) (a .starts .now) (a .sizes .now)) (a .weights .now) in
+    bad-size s (a .src .now) (a .frame .row) (a .frame .first) (a .frame .count) (a .out .now) (asked-bad (badSize (s .layout .lines) (windows (s .layout)) (a .frame .row)) (c .before .size-fits .ensures) (c .if1 .taken))
 
 shape-fits-requires : tie.Need-shape-fits-requires
 shape-fits-requires c κs = search needs
@@ -29,61 +29,79 @@ shape-fits-requires c κs = search needs
 returns-2 : tie.Need-returns-2
 returns-2 c =
     let a = c .before .before .before .before .before .before .before .before .before .args in
-    let s : Set Float = setOf (layoutOf (a .lines) (a .window-size) (a .starts .now) (a .sizes .now)) (a .weights .now) in
-    bad-shape s (a .src .now) (a .row) (a .first) (a .count) (a .out .now)
-    (asked-good (sizeBad s (a .row)) (c .before .before .before .size-fits .ensures) (c .before .before .if1 .left))
-    (asked-bad (shapeBad s (length (a .src .now)) (a .row) (a .first) (a .count) (length (a .out .now))) (c .before .shape-fits .ensures) (c .if2 .taken))
+    let s : Set Float = setOf (layoutOf (a .frame .lines) (a .window-size) (a .starts .now) (a .sizes .now)) (a .weights .now) in
+    bad-shape s (a .src .now) (a .frame .row) (a .frame .first) (a .frame .count) (a .out .now)
+    (asked-good (badSize (s .layout .lines) (windows (s .layout)) (a .frame .row)) (c .before .before .before .size-fits .ensures) (c .before .before .if1 .left))
+    (asked-bad (badShape (s .layout) (length (s .weights)) (length (a .src .now)) (a .frame .row) (a .frame .first) (a .frame .count) (length (a .out .now))) (c .before .shape-fits .ensures) (c .if2 .taken))
 
 weights-fit-requires : tie.Need-weights-fit-requires
 weights-fit-requires c κs =
     let a = c .before .before .before .before .before .before .before .before .before .args in
-    let s : Set Float = setOf (layoutOf (a .lines) (a .window-size) (a .starts .now) (a .sizes .now)) (a .weights .now) in
-    let r = ready s (length (a .src .now)) (a .row) (a .first) (a .count) (length (a .out .now))
-    (shaped s (length (a .src .now)) (a .row) (a .first) (a .count) (length (a .out .now))
-    (asked-good (sizeBad s (a .row)) (c .before .before .before .size-fits .ensures) (c .before .before .if1 .left))
-    (asked-good (shapeBad s (length (a .src .now)) (a .row) (a .first) (a .count) (length (a .out .now))) (c .before .shape-fits .ensures) (c .if2 .left))) in
+    let s : Set Float = setOf (layoutOf (a .frame .lines) (a .window-size) (a .starts .now) (a .sizes .now)) (a .weights .now) in
+    let r = ready s (length (a .src .now)) (a .frame .row) (a .frame .first) (a .frame .count) (length (a .out .now))
+    (shaped s (length (a .src .now)) (a .frame .row) (a .frame .first) (a .frame .count) (length (a .out .now))
+    (asked-good (badSize (s .layout .lines) (windows (s .layout)) (a .frame .row)) (c .before .before .before .size-fits .ensures) (c .before .before .if1 .left))
+    (asked-good (badShape (s .layout) (length (s .weights)) (length (a .src .now)) (a .frame .row) (a .frame .first) (a .frame .count) (length (a .out .now))) (c .before .shape-fits .ensures) (c .if2 .left))) in
     ((r .set .pairs, r .set .full, r .set .few-windows, r .set .few-slots), r .set .small)
 
 returns-3 : tie.Need-returns-3
 returns-3 c =
     let a = c .before .before .before .before .before .before .before .before .before .before .before .args in
-    let s : Set Float = setOf (layoutOf (a .lines) (a .window-size) (a .starts .now) (a .sizes .now)) (a .weights .now) in
-    bad-weights s (a .src .now) (a .row) (a .first) (a .count) (a .out .now)
-    (asked-good (sizeBad s (a .row)) (c .before .before .before .before .before .size-fits .ensures) (c .before .before .before .before .if1 .left))
-    (asked-good (shapeBad s (length (a .src .now)) (a .row) (a .first) (a .count) (length (a .out .now))) (c .before .before .before .shape-fits .ensures) (c .before .before .if2 .left))
+    let s : Set Float = setOf (layoutOf (a .frame .lines) (a .window-size) (a .starts .now) (a .sizes .now)) (a .weights .now) in
+    bad-weights s (a .src .now) (a .frame .row) (a .frame .first) (a .frame .count) (a .out .now)
+    (asked-good (badSize (s .layout .lines) (windows (s .layout)) (a .frame .row)) (c .before .before .before .before .before .size-fits .ensures) (c .before .before .before .before .if1 .left))
+    (asked-good (badShape (s .layout) (length (s .weights)) (length (a .src .now)) (a .frame .row) (a .frame .first) (a .frame .count) (length (a .out .now))) (c .before .before .before .shape-fits .ensures) (c .before .before .if2 .left))
     (asked-bad (badWeights s) (weights-said s (c .before .weights-fit .result) (c .before .weights-fit .ensures .0) (c .before .weights-fit .ensures .1)) (c .if3 .taken))
+
+cast-samples-fit : tie.Need-cast-samples-fit
+cast-samples-fit c = search needs
+
+cast-samples-fit-2 : tie.Need-cast-samples-fit-2
+cast-samples-fit-2 c = search needs
+
+cast-samples-fit-3 : tie.Need-cast-samples-fit-3
+cast-samples-fit-3 c = search needs
 
 samples-fit-requires : tie.Need-samples-fit-requires
 samples-fit-requires c κs =
-    let a = c .before .before .before .before .before .before .before .before .before .before .before .args in
-    let s : Set Float = setOf (layoutOf (a .lines) (a .window-size) (a .starts .now) (a .sizes .now)) (a .weights .now) in
-    let r = ready s (length (a .src .now)) (a .row) (a .first) (a .count) (length (a .out .now))
-    (shaped s (length (a .src .now)) (a .row) (a .first) (a .count) (length (a .out .now))
-    (asked-good (sizeBad s (a .row)) (c .before .before .before .before .before .size-fits .ensures) (c .before .before .before .before .if1 .left))
-    (asked-good (shapeBad s (length (a .src .now)) (a .row) (a .first) (a .count) (length (a .out .now))) (c .before .before .before .shape-fits .ensures) (c .before .before .if2 .left))) in
+    let a = c .before .before .before .before .before .before .before .before .before .before .before .before .before .before .args in
+    let s : Set Float = setOf (layoutOf (a .frame .lines) (a .window-size) (a .starts .now) (a .sizes .now)) (a .weights .now) in
+    let r = ready s (length (a .src .now)) (a .frame .row) (a .frame .first) (a .frame .count) (length (a .out .now))
+    (shaped s (length (a .src .now)) (a .frame .row) (a .frame .first) (a .frame .count) (length (a .out .now))
+    (asked-good (badSize (s .layout .lines) (windows (s .layout)) (a .frame .row)) (c .before .before .before .before .before .before .before .before .size-fits .ensures) (c .before .before .before .before .before .before .before .if1 .left))
+    (asked-good (badShape (s .layout) (length (s .weights)) (length (a .src .now)) (a .frame .row) (a .frame .first) (a .frame .count) (length (a .out .now))) (c .before .before .before .before .before .before .shape-fits .ensures) (c .before .before .before .before .before .if2 .left))) in
     ((r .narrow, r .fit, r .set .pairs), (r .set .ends, r .inside))
 
 returns-4 : tie.Need-returns-4
 returns-4 c =
-    let a = c .before .before .before .before .before .before .before .before .before .before .before .before .before .args in
-    let s : Set Float = setOf (layoutOf (a .lines) (a .window-size) (a .starts .now) (a .sizes .now)) (a .weights .now) in
-    bad-samples s (a .src .now) (a .row) (a .first) (a .count) (a .out .now)
-    (asked-good (sizeBad s (a .row)) (c .before .before .before .before .before .before .before .size-fits .ensures) (c .before .before .before .before .before .before .if1 .left))
-    (asked-good (shapeBad s (length (a .src .now)) (a .row) (a .first) (a .count) (length (a .out .now))) (c .before .before .before .before .before .shape-fits .ensures) (c .before .before .before .before .if2 .left))
-    (asked-good (badWeights s) (weights-said s (c .before .before .before .weights-fit .result) (c .before .before .before .weights-fit .ensures .0) (c .before .before .before .weights-fit .ensures .1)) (c .before .before .if3 .left))
-    (asked-bad (badSamples s (a .src .now) (a .row) (a .first) (a .count)) (samples-said s (a .src .now) (a .row) (a .first) (a .count) (c .before .samples-fit .result) (c .before .samples-fit .ensures .0) (c .before .samples-fit .ensures .1)) (c .if4 .taken))
+    let a = c .before .before .before .before .before .before .before .before .before .before .before .before .before .before .before .before .args in
+    let s : Set Float = setOf (layoutOf (a .frame .lines) (a .window-size) (a .starts .now) (a .sizes .now)) (a .weights .now) in
+    bad-samples s (a .src .now) (a .frame .row) (a .frame .first) (a .frame .count) (a .out .now)
+    (asked-good (badSize (s .layout .lines) (windows (s .layout)) (a .frame .row)) (c .before .before .before .before .before .before .before .before .before .before .size-fits .ensures) (c .before .before .before .before .before .before .before .before .before .if1 .left))
+    (asked-good (badShape (s .layout) (length (s .weights)) (length (a .src .now)) (a .frame .row) (a .frame .first) (a .frame .count) (length (a .out .now))) (c .before .before .before .before .before .before .before .before .shape-fits .ensures) (c .before .before .before .before .before .before .before .if2 .left))
+    (asked-good (badWeights s) (weights-said s (c .before .before .before .before .before .before .weights-fit .result) (c .before .before .before .before .before .before .weights-fit .ensures .0) (c .before .before .before .before .before .before .weights-fit .ensures .1)) (c .before .before .before .before .before .if3 .left))
+    (asked-bad (badSamples s (a .src .now) (a .frame .row) (a .frame .first) (a .frame .count)) (samples-said s (a .src .now) (a .frame .row) (a .frame .first) (a .frame .count) (c .before .samples-fit .result) (c .before .samples-fit .ensures .0) (c .before .samples-fit .ensures .1)) (c .if4 .taken))
+
+cast-rows : tie.Need-cast-rows
+cast-rows c = search needs
+
+cast-rows-2 : tie.Need-cast-rows-2
+cast-rows-2 c = search needs
+
+cast-rows-3 : tie.Need-cast-rows-3
+cast-rows-3 c = search needs
 
 rows-requires : tie.Need-rows-requires
 rows-requires c κs =
-    let a = c .before .before .before .before .before .before .before .before .before .before .before .before .before .before .args in
-    let s : Set Float = setOf (layoutOf (a .lines) (a .window-size) (a .starts .now) (a .sizes .now)) (a .weights .now) in (
-      ready s (length (a .src .now)) (a .row) (a .first) (a .count) (length (a .out .now))
-          (shaped s (length (a .src .now)) (a .row) (a .first) (a .count) (length (a .out .now))
-          (asked-good (sizeBad s (a .row)) (c .before .before .before .before .before .before .before .before .size-fits .ensures) (c .before .before .before .before .before .before .before .if1 .left))
-          (asked-good (shapeBad s (length (a .src .now)) (a .row) (a .first) (a .count) (length (a .out .now))) (c .before .before .before .before .before .before .shape-fits .ensures) (c .before .before .before .before .before .if2 .left))),
+    let a = c .before .before .before .before .before .before .before .before .before .before .before .before .before .before .before .before .before .before .before .before .args in
+    let s : Set Float = setOf (layoutOf (a .frame .lines) (a .window-size) (a .starts .now) (a .sizes .now)) (a .weights .now) in (
+      ready s (length (a .src .now)) (a .frame .row) (a .frame .first) (a .frame .count) (length (a .out .now))
+          (shaped s (length (a .src .now)) (a .frame .row) (a .frame .first) (a .frame .count) (length (a .out .now))
+          (asked-good (badSize (s .layout .lines) (windows (s .layout)) (a .frame .row)) (c .before .before .before .before .before .before .before .before .before .before .before .before .before .before .size-fits .ensures) (c .before .before .before .before .before .before .before .before .before .before .before .before .before .if1 .left))
+          (asked-good (badShape (s .layout) (length (s .weights)) (length (a .src .now)) (a .frame .row) (a .frame .first) (a .frame .count) (length (a .out .now))) (c .before .before .before .before .before .before .before .before .before .before .before .before .shape-fits .ensures) (c .before .before .before .before .before .before .before .before .before .before .before .if2 .left))),
       (
-        c .before .before .before .before .weights-fit .ensures .0 (not-false (c .before .before .before .before .weights-fit .result) (c .before .before .before .if3 .left)),
-        c .before .before .samples-fit .ensures .0 (not-false (c .before .before .samples-fit .result) (c .before .if4 .left)),
+        c .before .before .before .before .before .before .before .before .before .before .weights-fit .ensures .0 (not-false (c .before .before .before .before .before .before .before .before .before .before .weights-fit .result) (c .before .before .before .before .before .before .before .before .before .if3 .left)),
+        c .before .before .before .before .before .samples-fit .ensures .0 (not-false (c .before .before .before .before .before .samples-fit .result) (c .before .before .before .before .if4 .left)),
       ),
     )
 
@@ -92,14 +110,14 @@ same-length c = search needs
 
 returns-5 : tie.Need-returns-5
 returns-5 c =
-    let a = c .before .before .before .before .before .before .before .before .before .before .before .before .before .before .before .before .before .args in
-    let s : Set Float = setOf (layoutOf (a .lines) (a .window-size) (a .starts .now) (a .sizes .now)) (a .weights .now) in
+    let a = c .before .before .before .before .before .before .before .before .before .before .before .before .before .before .before .before .before .before .before .before .before .before .before .args in
+    let s : Set Float = setOf (layoutOf (a .frame .lines) (a .window-size) (a .starts .now) (a .sizes .now)) (a .weights .now) in
     let r = c .before .before .rows in
-    done s (a .src .now) (a .row) (a .first) (a .count) (a .out .now)
-    (asked-good (sizeBad s (a .row)) (c .before .before .before .before .before .before .before .before .before .before .before .size-fits .ensures) (c .before .before .before .before .before .before .before .before .before .before .if1 .left))
-    (asked-good (shapeBad s (length (a .src .now)) (a .row) (a .first) (a .count) (length (a .out .now))) (c .before .before .before .before .before .before .before .before .before .shape-fits .ensures) (c .before .before .before .before .before .before .before .before .if2 .left))
-    (asked-good (badWeights s) (weights-said s (c .before .before .before .before .before .before .before .weights-fit .result) (c .before .before .before .before .before .before .before .weights-fit .ensures .0) (c .before .before .before .before .before .before .before .weights-fit .ensures .1)) (c .before .before .before .before .before .before .if3 .left))
-    (asked-good (badSamples s (a .src .now) (a .row) (a .first) (a .count)) (samples-said s (a .src .now) (a .row) (a .first) (a .count) (c .before .before .before .before .before .samples-fit .result) (c .before .before .before .before .before .samples-fit .ensures .0) (c .before .before .before .before .before .samples-fit .ensures .1)) (c .before .before .before .before .if4 .left))
+    done s (a .src .now) (a .frame .row) (a .frame .first) (a .frame .count) (a .out .now)
+    (asked-good (badSize (s .layout .lines) (windows (s .layout)) (a .frame .row)) (c .before .before .before .before .before .before .before .before .before .before .before .before .before .before .before .before .before .size-fits .ensures) (c .before .before .before .before .before .before .before .before .before .before .before .before .before .before .before .before .if1 .left))
+    (asked-good (badShape (s .layout) (length (s .weights)) (length (a .src .now)) (a .frame .row) (a .frame .first) (a .frame .count) (length (a .out .now))) (c .before .before .before .before .before .before .before .before .before .before .before .before .before .before .before .shape-fits .ensures) (c .before .before .before .before .before .before .before .before .before .before .before .before .before .before .if2 .left))
+    (asked-good (badWeights s) (weights-said s (c .before .before .before .before .before .before .before .before .before .before .before .before .before .weights-fit .result) (c .before .before .before .before .before .before .before .before .before .before .before .before .before .weights-fit .ensures .0) (c .before .before .before .before .before .before .before .before .before .before .before .before .before .weights-fit .ensures .1)) (c .before .before .before .before .before .before .before .before .before .before .before .before .if3 .left))
+    (asked-good (badSamples s (a .src .now) (a .frame .row) (a .frame .first) (a .frame .count)) (samples-said s (a .src .now) (a .frame .row) (a .frame .first) (a .frame .count) (c .before .before .before .before .before .before .before .before .samples-fit .result) (c .before .before .before .before .before .before .before .before .samples-fit .ensures .0) (c .before .before .before .before .before .before .before .before .samples-fit .ensures .1)) (c .before .before .before .before .before .before .before .if4 .left))
     (r .last .1 .1 .1 .1 .1 .1 .1 .1 .0)
     (r .kept .1 .1 .1 .1 .1 .1 .1 .1 .0)
     (r .ensures)
@@ -114,8 +132,14 @@ vert-convolution-f32-spec =
     returns-2
     weights-fit-requires
     returns-3
+    cast-samples-fit
+    cast-samples-fit-2
+    cast-samples-fit-3
     samples-fit-requires
     returns-4
+    cast-rows
+    cast-rows-2
+    cast-rows-3
     rows-requires
     same-length
     returns-5)

@@ -1,7 +1,7 @@
 -- `mirror_vertical_f32`: the number of the pass's answer, and its output. Assumes nothing.
 use mathlib.Core.Path.{_∙_, ap}
 use borrow.Author.Needs.{needs}
-use Rattle.vertical.specs.Passed.{numberOf}
+use Rattle.vertical.specs.PassedF32.{numberOf}
 use Rattle.mirror_passes.proofs.passes.mirror_vertical_f32.Statement.{statement}
 use Rattle.mirror_passes.proofs.passes.mirror_vertical_f32.Tie as tie
 

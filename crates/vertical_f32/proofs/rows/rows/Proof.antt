@@ -1,4 +1,4 @@
--- After i windows each of their rows stands in its place; `turn-here` and `good-here` say that all of the next one's numbers are there and small. Assumes nothing.
+-- After i windows each of their rows stands in its place; `there-here` and `summable-here` say that all of the next one's numbers are there and small. Assumes nothing.
 use mathlib.Core.Path.{_≡_, _∙_, refl}
 use Prim.Native.Nat.{ℕ, _-_, _≤_, _<_, _*_, _+_}
 use native.Mathlib.Omega.{arith}
@@ -7,8 +7,8 @@ use borrow.Author.Count.{below-more}
 use lib.ListN.{length, getD}
 use lib.Ieee.{nan}
 use Rattle.lists.proofs.TabLaws.{row-end}
-use Rattle.vertical.proofs.Turns.{Turn}
-use Rattle.vertical_f32.proofs.Turns.{turn-here, good-here}
+use Rattle.vertical.proofs.Turns.{WindowThere}
+use Rattle.vertical_f32.proofs.Turns.{there-here, summable-here}
 use Rattle.vertical_f32.specs.Column.{windowValue}
 use Rattle.vertical_f32.proofs.rows.rows.Statement.{statement}
 use Rattle.vertical_f32.proofs.rows.rows.Tie as tie
@@ -23,11 +23,11 @@ abbrev μ-loop : tie.MeasureT-loop
 μ-loop src row first count weights starts sizes window out₀ i₀ out i = length starts - i
 
 -- what the lists' facts give at the window of a turn
-at : (c : tie.At-loop Inv-loop μ-loop) → c .loop .i < length (c .before .before .before .before .before .before .args .starts .now) → let a = c .before .before .before .before .before .before .args in Turn (length (a .src .now)) (a .row) (a .first) (a .count) (a .starts .now) (a .sizes .now) (a .window) (length (a .weights .now)) (length (a .out .now)) (c .loop .i)
+at : (c : tie.At-loop Inv-loop μ-loop) → c .loop .i < length (c .before .before .before .before .before .before .args .starts .now) → let a = c .before .before .before .before .before .before .args in WindowThere (length (a .src .now)) (a .row) (a .first) (a .count) (a .starts .now) (a .sizes .now) (a .window) (length (a .weights .now)) (length (a .out .now)) (c .loop .i)
 at c h =
     let a = c .before .before .before .before .before .before .args in
     let q = c .before .before .before .before .before .before .pre in
-    turn-here (a .src .now) (a .row) (a .first) (a .count) (a .starts .now) (a .sizes .now) (a .window) (a .weights .now) (length (a .out .now)) (q .0) (q .1 .0) (q .1 .1) (c .loop .i) h
+    there-here (a .src .now) (a .row) (a .first) (a .count) (a .starts .now) (a .sizes .now) (a .window) (a .weights .now) (length (a .out .now)) (q .0) (q .1 .0) (q .1 .1) (c .loop .i) h
 
 -- what lies below the window of a turn
 below : (x i n j : ℕ) → x < i → j < n → x * n + j < i * n
@@ -74,7 +74,7 @@ place-requires c κs =
     let t = at l (c .before .before .before .before .before .loop-test .taken) in
     let e = c .before .before .before .wide .ensures in
     let z = c .before .wide2 .ensures in
-    ((rw e (omega (arith, t .first-line, t .columns)), rw z (t .weights), omega (arith, t .outputs, l .loop .inv .1)), rw (e, z) (good-here (a .src .now) (a .row) (a .first) (a .count) (a .starts .now) (a .sizes .now) (a .window) (a .weights .now) (length (a .out .now)) (q .0) (q .1 .0) (q .1 .1) (l .loop .i) (c .before .before .before .before .before .loop-test .taken)))
+    ((rw e (omega (arith, t .first-line, t .columns)), rw z (t .weights), omega (arith, t .outputs, l .loop .inv .1)), rw (e, z) (summable-here (a .src .now) (a .row) (a .first) (a .count) (a .starts .now) (a .sizes .now) (a .window) (a .weights .now) (length (a .out .now)) (q .0) (q .1 .0) (q .1 .1) (l .loop .i) (c .before .before .before .before .before .loop-test .taken)))
 
 add-i : tie.Need-add-i Inv-loop μ-loop
 add-i c = omega arith

@@ -11,7 +11,7 @@ use lib.Ieee.{Float, nan, isNan}
 use Rattle.lists.proofs.StoreLaws.{set-below, set-above}
 use Rattle.vertical_f32.proofs.Fast.{bounded-number}
 use Rattle.vertical_f32.proofs.SumLaws.{turn}
-use Rattle.vertical_f32.specs.Column.{columnSum, Good}
+use Rattle.vertical_f32.specs.Column.{columnSum, Summable}
 use Rattle.vertical_f32.proofs.sums.add16.Statement.{statement}
 use Rattle.vertical_f32.proofs.sums.add16.Tie as tie
 
@@ -25,7 +25,7 @@ Inv-loop src row at0 ws k at w r₀ t₀ r t =
 abbrev μ-loop : tie.MeasureT-loop
 μ-loop src row at0 ws k at w r₀ t₀ r t = 16 - t
 
-number : (ws src : List Float) (at row k t : ℕ) → Good ws src at row 16 → k < length ws → t < 16 → T (not (isNan (getD src (at + k * row + t) nan)))
+number : (ws src : List Float) (at row k t : ℕ) → Summable ws src at row 16 → k < length ws → t < 16 → T (not (isNan (getD src (at + k * row + t) nan)))
 number ws src at row k t g h l = bounded-number (getD src (at + k * row + t) nan) (2 ^ 128) (g .light k t h l)
 
 swap : (A K t : ℕ) → A + K + t ≡ A + t + K

@@ -1,119 +1,52 @@
--- After j columns, a multiple of sixteen, each has its value: a chunk more, and then the tail. Assumes nothing.
-use mathlib.Core.Path.{_≡_, _∙_, ap, refl}
-use Prim.Native.Nat.{ℕ, _-_, _≤_, _<_, _+_}
-use native.Mathlib.Nat.{not-suc-le-zero, add-assoc}
+-- Three runs, each on from where the one before ended; the last leaves no column. Assumes nothing.
+use mathlib.Core.Path.{_≡_}
 use native.Mathlib.Omega.{arith}
-use lib.ListN.{length, getD}
-use Rattle.integers.proofs.Floors.{shifted-from}
-use Rattle.integers.specs.Sums.{clipped}
-use Rattle.lists.proofs.StoreLaws.{chunk}
-use Rattle.vertical_u16.specs.Column.{columnValue}
-use Rattle.vertical_u16.proofs.ReadBack.{back}
-use Rattle.vertical_u16.proofs.Sizes.{half-size}
+use borrow.Author.Needs.{needs}
+use lib.Dec.{lit≤}
+use lib.ListN.{length}
+use Rattle.vertical.specs.Column.{rowValue}
+use Rattle.vertical_u16.proofs.Parts.{done-again, run-on, run-whole}
 use Rattle.vertical_u16.proofs.columns.fill.Statement.{statement}
 use Rattle.vertical_u16.proofs.columns.fill.Tie as tie
 
-abbrev Inv-loop : tie.InvT-loop
-Inv-loop src row at0 ws p out₀ init j₀ out j =
-    (j ≤ length out₀)
-    × (length out ≡ length out₀)
-    × ((x : ℕ) → x < j → getD out x 0 ≡ columnValue ws src (at0 + x) row (length ws) p)
+sixteens-requires : tie.Need-sixteens-requires
+sixteens-requires c κs = search needs
 
-abbrev μ-loop : tie.MeasureT-loop
-μ-loop src row at0 ws p out₀ init j₀ out j = length out₀ - j
+chunks-requires : tie.Need-chunks-requires
+chunks-requires c κs =
+    let s = c .before .before .before .sixteens in
+    let b = c .before .before .before .before .before .before .before in
+    let a = b .args in
+    let q = b .pre in
+    let long : length (s .last .1 .1 .1 .1 .1 .0) ≡ length (a .out .now) = s .kept .1 .1 .1 .1 .1 .0 in
+    ((lit≤ tt, lit≤ tt), (q .0, (q .1 .0, (q .1 .1 .0, ((λ k l. omega (arith, q .1 .1 .1 .0 k l)), (omega (arith, q .1 .1 .1 .1), (omega (arith, s .ensures .0), done-again (rowValue 65535 (a .p) (a .ws .now) (a .src .now) (a .at0) (a .row) (length (a .ws .now))) (a .out .now) (s .result) (s .ensures .1))))))))
 
-half-requires : tie.Need-half-requires Inv-loop μ-loop
-half-requires c κs = c .before .before .pre .0
+chunks-requires-2 : tie.Need-chunks-requires-2
+chunks-requires-2 c κs =
+    let r = c .before .before .before .chunks in
+    let s = c .before .before .before .before .before .before .before .sixteens in
+    let b = c .before .before .before .before .before .before .before .before .before .before .before in
+    let a = b .args in
+    let q = b .pre in
+    let first : length (s .last .1 .1 .1 .1 .1 .0) ≡ length (a .out .now) = s .kept .1 .1 .1 .1 .1 .0 in
+    let long : length (r .last .1 .1 .1 .1 .1 .1 .0) ≡ length (s .last .1 .1 .1 .1 .1 .0) = r .kept .1 .1 .1 .1 .1 .1 .0 in
+    ((lit≤ tt, lit≤ tt), (q .0, (q .1 .0, (q .1 .1 .0, ((λ k l. omega (arith, q .1 .1 .1 .0 k l)), (omega (arith, q .1 .1 .1 .1), (omega (arith, r .ensures .0), done-again (rowValue 65535 (a .p) (a .ws .now) (a .src .now) (a .at0) (a .row) (length (a .ws .now))) (s .last .1 .1 .1 .1 .1 .0) (r .result) (r .ensures .1))))))))
 
-loop-holds : tie.Need-loop-holds Inv-loop μ-loop
-loop-holds c = (omega arith, refl, (λ x h. absurd (not-suc-le-zero h)))
+same-length : tie.Need-same-length
+same-length c = search needs
 
-sub-loop : tie.Need-sub-loop Inv-loop μ-loop
-sub-loop c = omega arith
-
-add-sums16 : tie.Need-add-sums16 Inv-loop μ-loop
-add-sums16 c = omega arith
-
-sums16-requires : tie.Need-sums16-requires Inv-loop μ-loop
-sums16-requires c κs =
-    let h = c .before .before .half in
-    let q = c .before .before .before .before .before .pre in (
-      half-size (c .before .before .before .before .before .args .p) (q .0 .1) (back (h .ok) ∙ h .ensures),
-      (q .1 .0, (q .1 .1 .0, λ k l. omega (arith, q .1 .1 .1 .0 k l))),
-    )
-
-put16-requires : tie.Need-put16-requires Inv-loop μ-loop
-put16-requires c κs = (omega (arith, c .before .before .before .before .before .before .before .pre .0), omega arith)
-
-add-j : tie.Need-add-j Inv-loop μ-loop
-add-j c = omega arith
-
-loop-less : tie.Need-loop-less Inv-loop μ-loop
-loop-less c = omega arith
-
-loop-again : tie.Need-loop-again Inv-loop μ-loop
-loop-again c =
-    let l = c .before .before .before .before .before .before in
-    let a = l .before .before .before .before .args in
-    let h = l .before .half in
-    let new = c .before .before .put16 .last .1 .1 .0 in
-    let sums = c .before .before .before .before .sums16 in (
-      omega arith,
-      c .before .before .put16 .kept .1 .1 .0 ∙ l .loop .inv .1,
-      chunk
-          0
-          new
-          (l .loop .out)
-          (l .loop .j)
-          16
-          (λ (x : ℕ). columnValue (a .ws .now) (a .src .now) (a .at0 + x) (a .row) (length (a .ws .now)) (a .p))
-          (c .before .before .put16 .ensures .1)
-          (l .loop .inv .2)
-          (λ t k. c .before .before .put16 .ensures .0 t k ∙ rw (sums .ensures t k, back (h .ok), h .ensures, add-assoc (a .at0) (l .loop .j) t) (ap (clipped 65535) (shifted-from _ _))),
-    )
-
-tail-requires : tie.Need-tail-requires Inv-loop μ-loop
-tail-requires c κs =
-    let q = c .before .before .before .before .before .before .pre in
-    (q .0, (q .1 .0, (q .1 .1 .0, ((λ k l. omega (arith, q .1 .1 .1 .0 k l)), (omega arith, omega arith)))))
-
-same-length : tie.Need-same-length Inv-loop μ-loop
-same-length c = omega arith
-
-returns : tie.Need-returns Inv-loop μ-loop
+returns : tie.Need-returns
 returns c =
-    let l = c .before .before .before .before .before in
-    let a = l .before .before .before .before .args in
-    let t = c .before .before .tail in
-    λ x h.
-    chunk
-    0
-    (t .last .1 .1 .1 .1 .1 .0)
-    (l .loop .out)
-    (l .loop .j)
-    (length (a .out .now) - l .loop .j)
-    (λ (x : ℕ). columnValue (a .ws .now) (a .src .now) (a .at0 + x) (a .row) (length (a .ws .now)) (a .p))
-    (t .ensures .1)
-    (l .loop .inv .2)
-    (λ u k. t .ensures .0 (l .loop .j + u) (omega arith) (omega arith))
-    x
-    (omega arith)
+    let z = c .before .before .chunks2 in
+    let r = c .before .before .before .before .before .before .chunks in
+    let s = c .before .before .before .before .before .before .before .before .before .before .sixteens in
+    let a = c .before .before .before .before .before .before .before .before .before .before .before .before .before .before .args in
+    let row = rowValue 65535 (a .p) (a .ws .now) (a .src .now) (a .at0) (a .row) (length (a .ws .now)) in
+    let first : length (s .last .1 .1 .1 .1 .1 .0) ≡ length (a .out .now) = s .kept .1 .1 .1 .1 .1 .0 in
+    let long : length (r .last .1 .1 .1 .1 .1 .1 .0) ≡ length (s .last .1 .1 .1 .1 .1 .0) = r .kept .1 .1 .1 .1 .1 .1 .0 in
+    let fours = run-on row (a .out .now) (s .result) (s .ensures .1) (r .result) (r .ensures .0 .0) (r .ensures .1) in
+    run-whole row (a .out .now) (z .result) (run-on row (a .out .now) (r .result) fours (z .result) (z .ensures .0 .0) (z .ensures .1)) (omega (arith, z .ensures .0))
 
 pub fill-spec : {M : Type 1} → statement M
 fill-spec =
-    tie.close
-    (tie.spec
-    Inv-loop
-    μ-loop
-    half-requires
-    loop-holds
-    sub-loop
-    add-sums16
-    sums16-requires
-    put16-requires
-    add-j
-    loop-less
-    loop-again
-    tail-requires
-    same-length
-    returns)
+    tie.close (tie.spec sixteens-requires chunks-requires chunks-requires-2 same-length returns)

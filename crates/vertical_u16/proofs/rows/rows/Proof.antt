@@ -1,84 +1,114 @@
--- After i windows each of their rows stands in its place; `Turn` says that all of the next one's indices are there. Assumes nothing.
-use mathlib.Core.Path.{_≡_, _∙_, refl}
-use Prim.Native.Nat.{ℕ, _-_, _≤_, _<_, _*_, _+_}
-use native.Mathlib.Nat.{not-suc-le-zero, mul-le-mul-right}
+-- After i windows each of their rows stands in its place; `WindowThere` says that all of the next one's indices are there. Assumes nothing.
+use mathlib.Core.Path.{_≡_, refl, sym, ap, _∙_}
+use mathlib.Core.List.{List}
+use Prim.Native.Nat.{ℕ, _+_, _-_, _*_, _≤_, _<_}
+use native.Mathlib.Nat.{zero-mul}
+use native.Mathlib.Numerals.{add-one}
 use native.Mathlib.Omega.{arith}
-use lib.ListN.{length, getD}
-use borrow.Author.Count.{below-more}
-use Rattle.vertical.proofs.Turns.{Turn, turn-at}
-use Rattle.lists.proofs.TabLaws.{row-next}
-use Rattle.vertical_u16.specs.Column.{windowValue}
+use borrow.Author.Needs.{needs}
+use lib.IntN.{ℤ}
+use lib.ListN.{length, getD, take, drop}
+use Rattle.lists.specs.Tab.{tab, front, grid}
+use Rattle.lists.proofs.StoreLaws.{part-size}
+use Rattle.lists.proofs.TabLaws.{Written, written-none, written-row, row-next, front-whole}
+use Rattle.vertical.specs.Column.{rowValue}
+use Rattle.vertical.proofs.Turns.{WindowThere, window-there}
+use Rattle.vertical_u16.specs.Window.{windowValue}
 use Rattle.vertical_u16.proofs.rows.rows.Statement.{statement}
 use Rattle.vertical_u16.proofs.rows.rows.Tie as tie
 
 abbrev Inv-loop : tie.InvT-loop
-Inv-loop src row first count weights starts sizes window p out₀ i₀ out i =
-    (i ≤ length starts)
-    × (length out ≡ length out₀)
-    × ((x : ℕ) → x < i → (j : ℕ) → j < count → getD out (x * count + j) 0 ≡ windowValue src row first starts sizes window weights p x j)
+Inv-loop src row first count weights starts sizes window p out₀ i₀ o₀ out i o =
+    (i ≤ length starts) × (o ≡ i * count) × Written o (grid count (windowValue src row first starts sizes window weights p)) out₀ out
 
 abbrev μ-loop : tie.MeasureT-loop
-μ-loop src row first count weights starts sizes window p out₀ i₀ out i = length starts - i
+μ-loop src row first count weights starts sizes window p out₀ i₀ o₀ out i o = length starts - i
 
 loop-holds : tie.Need-loop-holds Inv-loop μ-loop
-loop-holds c = (omega arith, refl, (λ x h. absurd (not-suc-le-zero h)))
+loop-holds c = (omega arith, rw zero-mul, written-none)
 
 -- what the lists' facts give at the window of a turn
-at : (c : tie.At-loop Inv-loop μ-loop) → c .loop .i < length (c .before .before .before .before .before .args .starts .now) → let a = c .before .before .before .before .before .args in Turn (length (a .src .now)) (a .row) (a .first) (a .count) (a .starts .now) (a .sizes .now) (a .window) (length (a .weights .now)) (length (a .out .now)) (c .loop .i)
+at : (c : tie.At-loop Inv-loop μ-loop) → c .loop .i < length (c .before .before .before .before .before .args .starts .now) → let a = c .before .before .before .before .before .args in WindowThere (length (a .src .now)) (a .row) (a .first) (a .count) (a .starts .now) (a .sizes .now) (a .window) (length (a .weights .now)) (length (a .out .now)) (c .loop .i)
 at c h =
     let a = c .before .before .before .before .before .args in
-    turn-at (length (a .src .now)) (a .row) (a .first) (a .count) (a .starts .now) (a .sizes .now) (a .window) (length (a .weights .now)) (length (a .out .now)) (c .before .before .before .before .before .pre .1) (c .loop .i) h
+    window-there (length (a .src .now)) (a .row) (a .first) (a .count) (a .starts .now) (a .sizes .now) (a .window) (length (a .weights .now)) (length (a .out .now)) (c .before .before .before .before .before .pre .1) (c .loop .i) h
 
--- what lies below the window of a turn
-below : (x i n j : ℕ) → x < i → j < n → x * n + j < i * n
-below x i n j h k = let l : x + 1 ≤ i = omega arith in omega (arith, row-next (x * n) x n refl, mul-le-mul-right n l)
+-- the row that `fill` writes, with what the turn read in the place of the window's start and size
+row-is : (p row first count : ℕ) (weights : List ℤ) (src : List ℕ) (a size start : ℕ) {m d n y : ℕ} {new : List ℕ} → m ≡ count → d ≡ size → n ≡ size → y ≡ start → new ≡ tab 0 m (rowValue 65535 p (take d (drop a weights)) src (y * row + first) row n) → new ≡ tab 0 count (rowValue 65535 p (take size (drop a weights)) src (start * row + first) row size)
+row-is p row first count weights src a size start em ed en ey e = e ∙ rw (em, ed, en, ey) refl
+
+mul-a : tie.Need-mul-a Inv-loop μ-loop
+mul-a c = omega (arith, at (c .before) (c .loop-test .taken))
 
 mul-wide : tie.Need-mul-wide Inv-loop μ-loop
 mul-wide c = omega arith
 
 shared-slice-read-wide : tie.Need-shared-slice-read-wide Inv-loop μ-loop
-shared-slice-read-wide c = omega arith
+shared-slice-read-wide c = omega (arith, c .before .before .before .before .before .before .before .pre .1 .set .pairs)
 
 wide-requires : tie.Need-wide-requires Inv-loop μ-loop
 wide-requires c κs = tt
 
-mul-place : tie.Need-mul-place Inv-loop μ-loop
-mul-place c = rw (c .wide .ensures) (omega (arith, at (c .before .before .before) (c .before .before .loop-test .taken)))
+add-e : tie.Need-add-e Inv-loop μ-loop
+add-e c = rw (c .wide .ensures) (omega (arith, at (c .before .before .before) (c .before .before .loop-test .taken)))
 
-add-place : tie.Need-add-place Inv-loop μ-loop
-add-place c = rw (c .wide .ensures) (omega (arith, at (c .before .before .before) (c .before .before .loop-test .taken)))
-
-mul-place-2 : tie.Need-mul-place-2 Inv-loop μ-loop
-mul-place-2 c = omega (arith, at (c .before .before .before) (c .before .before .loop-test .taken))
+add-f : tie.Need-add-f Inv-loop μ-loop
+add-f c = omega (arith, at (c .before .before .before) (c .before .before .loop-test .taken), c .before .before .before .loop .inv .1)
 
 mul-wide-2 : tie.Need-mul-wide-2 Inv-loop μ-loop
 mul-wide-2 c = omega arith
 
 shared-slice-read-wide-2 : tie.Need-shared-slice-read-wide-2 Inv-loop μ-loop
-shared-slice-read-wide-2 c = omega (arith, c .before .before .before .before .before .before .before .before .before .pre .1 .set .pairs)
+shared-slice-read-wide-2 c = omega arith
 
 wide-requires-2 : tie.Need-wide-requires-2 Inv-loop μ-loop
 wide-requires-2 c κs = tt
 
-mul-place-3 : tie.Need-mul-place-3 Inv-loop μ-loop
-mul-place-3 c = omega (arith, at (c .before .before .before .before .before .before) (c .before .before .before .before .before .loop-test .taken))
+mul-at : tie.Need-mul-at Inv-loop μ-loop
+mul-at c = rw (c .wide2 .ensures) (omega (arith, at (c .before .before .before .before .before) (c .before .before .before .before .loop-test .taken)))
 
-place-requires : tie.Need-place-requires Inv-loop μ-loop
-place-requires c κs =
-    let l = c .before .before .before .before .before .before in
-    let r = l .before .before .before .before .before .pre in
-    let t = at l (c .before .before .before .before .before .loop-test .taken) in
-    let e = c .before .before .before .wide .ensures in
-    let z = c .before .wide2 .ensures in (
-      r .0,
+add-at : tie.Need-add-at Inv-loop μ-loop
+add-at c = rw (c .wide2 .ensures) (omega (arith, at (c .before .before .before .before .before) (c .before .before .before .before .loop-test .taken)))
+
+mul-fill : tie.Need-mul-fill Inv-loop μ-loop
+mul-fill c = omega (arith, at (c .before .before .before .before .before) (c .before .before .before .before .loop-test .taken))
+
+sub-fill : tie.Need-sub-fill Inv-loop μ-loop
+sub-fill c = omega arith
+
+part-fill-start : tie.Need-part-fill-start Inv-loop μ-loop
+part-fill-start c = search needs
+
+part-fill-end : tie.Need-part-fill-end Inv-loop μ-loop
+part-fill-end c = omega (arith, at (c .before .before .before .before .before) (c .before .before .before .before .loop-test .taken), c .before .before .wide .ensures)
+
+mul-fill-2 : tie.Need-mul-fill-2 Inv-loop μ-loop
+mul-fill-2 c = omega (arith, at (c .before .before .before .before .before .before) (c .before .before .before .before .before .loop-test .taken), c .before .before .before .before .before .before .loop .inv .1)
+
+sub-fill-2 : tie.Need-sub-fill-2 Inv-loop μ-loop
+sub-fill-2 c = omega arith
+
+part-fill-start-2 : tie.Need-part-fill-start-2 Inv-loop μ-loop
+part-fill-start-2 c = search needs
+
+part-fill-end-2 : tie.Need-part-fill-end-2 Inv-loop μ-loop
+part-fill-end-2 c = omega (arith, at (c .before .before .before .before .before .before) (c .before .before .before .before .before .loop-test .taken), c .before .before .before .before .before .before .loop .inv .1, c .before .before .before .before .before .before .loop .inv .2 .long)
+
+fill-requires : tie.Need-fill-requires Inv-loop μ-loop
+fill-requires c κs =
+    let l = c .before .before .before .before .before .before .before in
+    let b = l .before .before .before .before .before in
+    let t = at l (c .before .before .before .before .before .before .loop-test .taken) in
+    let e = c .before .before .wide2 .ensures in
+    let z = c .before .before .before .before .wide .ensures in
+    let lw = part-size (b .args .weights .now) (l .loop .i * b .args .window) (c .before .before .before .before .wide .result) (omega (arith, t .weights)) in
+    let lo = part-size (l .loop .out) (l .loop .o) (b .args .count) (omega (arith, t .outputs, l .loop .inv .1, l .loop .inv .2 .long)) in (
+      b .pre .0,
       (
-        r .1 .narrow,
+        b .pre .1 .narrow,
         (
-          rw z (t .few),
-          (
-            rw (e, z) (t .lines),
-            (rw e (omega (arith, t .first-line, t .columns)), rw z (t .weights), omega (arith, t .outputs, l .loop .inv .1)),
-          ),
+          omega (arith, lw, z, t .few),
+          ((λ k h. rw e (omega (arith, lo, t .lines k (omega (arith, lw, z))))), rw e (omega (arith, lo, t .first-line, t .columns))),
         ),
       ),
     )
@@ -91,24 +121,36 @@ loop-less c = omega arith
 
 loop-again : tie.Need-loop-again Inv-loop μ-loop
 loop-again c =
-    let l = c .before .before .before .before .before .before .before .before .before in
-    let a = l .before .before .before .before .before .args in
-    let n = c .before .before .place in
-    let new = n .last .1 .1 .1 .1 .1 .1 .1 .0 in (
-      omega arith,
-      n .kept .1 .1 .1 .1 .1 .1 .1 .0 ∙ l .loop .inv .1,
-      below-more
-          (λ (x : ℕ). (j : ℕ) → j < a .count → getD new (x * a .count + j) 0 ≡ windowValue (a .src .now) (a .row) (a .first) (a .starts .now) (a .sizes .now) (a .window) (a .weights .now) (a .p) x j)
-          (l .loop .i)
-          (λ x k j g. n .ensures .1 (x * a .count + j) (below x (l .loop .i) (a .count) j k g) ∙ l .loop .inv .2 x k j g)
-          (λ j g. n .ensures .0 j g ∙ rw (c .before .before .before .before .before .before .wide .ensures, c .before .before .before .before .wide2 .ensures) refl),
+    let l = c .before .before .before .before .before .before .before .before .before .before in
+    let b = l .before .before .before .before .before in
+    let a = b .args in
+    let t = at l (c .before .before .before .before .before .before .before .before .before .loop-test .taken) in
+    let e = c .before .before .before .before .before .wide2 .ensures in
+    let z = c .before .before .before .before .before .before .before .wide .ensures in
+    let d : l .loop .i * a .window + c .before .before .before .before .before .before .before .wide .result - l .loop .i * a .window ≡ getD (a .sizes .now) (l .loop .i) 0 = omega (arith, z) in
+    let lw = part-size (a .weights .now) (l .loop .i * a .window) (c .before .before .before .before .before .before .before .wide .result) (omega (arith, t .weights)) in
+    let lo = part-size (l .loop .out) (l .loop .o) (a .count) (omega (arith, t .outputs, l .loop .inv .1, l .loop .inv .2 .long)) in (
+      rw (add-one (l .loop .i)) (c .before .before .before .before .before .before .before .before .before .loop-test .taken),
+      row-next (l .loop .o) (l .loop .i) (a .count) (l .loop .inv .1),
+      written-row (l .loop .i) (a .count) (l .loop .o) (l .loop .o + a .count - l .loop .o) (windowValue (a .src .now) (a .row) (a .first) (a .starts .now) (a .sizes .now) (a .window) (a .weights .now) (a .p)) (l .loop .inv .2) (l .loop .inv .1) (omega arith)
+          (omega (arith, t .outputs, l .loop .inv .1))
+          (row-is (a .p) (a .row) (a .first) (a .count) (a .weights .now) (a .src .now) (l .loop .i * a .window) (getD (a .sizes .now) (l .loop .i) 0) (getD (a .starts .now) (l .loop .i) 0) lo d (lw ∙ z) e (c .before .before .fill .ensures)),
     )
 
 same-length : tie.Need-same-length Inv-loop μ-loop
-same-length c = omega arith
+same-length c = search needs
 
 returns : tie.Need-returns Inv-loop μ-loop
-returns c = λ x h j g. c .before .loop .inv .2 x (omega arith) j g
+returns c =
+    let l = c .before in
+    let b = l .before .before .before .before .before in
+    let a = b .args in
+    let cells = grid (a .count) (windowValue (a .src .now) (a .row) (a .first) (a .starts .now) (a .sizes .now) (a .window) (a .weights .now) (a .p)) in
+    let last : l .loop .i ≡ length (a .starts .now) = omega arith in
+    l .loop .inv .2 .is
+    ∙ ap (λ (n : ℕ). front n cells (a .out .now)) (l .loop .inv .1 ∙ ap (λ (i : ℕ). i * a .count) last ∙ sym (b .pre .1 .rooms))
+    ∙ front-whole cells (a .out .now)
+    ∙ ap (λ (n : ℕ). tab 0 n cells) (b .pre .1 .rooms)
 
 pub rows-spec : {M : Type 1} → statement M
 rows-spec =
@@ -117,17 +159,26 @@ rows-spec =
     Inv-loop
     μ-loop
     loop-holds
+    mul-a
     mul-wide
     shared-slice-read-wide
     wide-requires
-    mul-place
-    add-place
-    mul-place-2
+    add-e
+    add-f
     mul-wide-2
     shared-slice-read-wide-2
     wide-requires-2
-    mul-place-3
-    place-requires
+    mul-at
+    add-at
+    mul-fill
+    sub-fill
+    part-fill-start
+    part-fill-end
+    mul-fill-2
+    sub-fill-2
+    part-fill-start-2
+    part-fill-end-2
+    fill-requires
     add-i
     loop-less
     loop-again
