@@ -7,7 +7,7 @@ use Prim.Native.Nat.{ℕ, zero, suc, _+_, _*_, _^_, _≤_, _<_}
 use native.Mathlib.Nat.{le-trans, le-of-eq, le-of-lt, lt-of-lt-of-le, mul-zero, mul-suc, one-mul, zero-lt-suc}
 use native.Mathlib.Omega.{arith}
 use lib.Arith.{digits-lt, digits-div, digits-mod}
-use lib.Dec.{ltb, lit≤}
+use lib.Dec.{lit≤}
 use lib.Pow.{pow-mono}
 use lib.IntN.{ℤ, pos}
 use lib.Ieee.{Float, nan, binary64, ofInt, neg, lt, toSigned}
@@ -16,9 +16,9 @@ use lib.Ieee.Positive.{num, den, den-pos}
 use lib.ListN.{length, getD, take}
 use lib.Seq.{getD-take}
 use borrow.Author.Tests.{lt-ltb, ltb-true}
-use Rattle.lists.specs.Tab.{any, front}
+use Rattle.lists.specs.Tab.{front}
 use Rattle.lists.proofs.TabLaws.{front-below}
-use Rattle.lists.proofs.BoolLaws.{never, ladder, or-right}
+use Rattle.lists.proofs.BoolLaws.{never}
 use Rattle.lists.proofs.AnyLaws.{any-none}
 use Rattle.integers.specs.Nearest.{nearest}
 use Rattle.integers.specs.Sums.{sum}
@@ -29,7 +29,7 @@ use Rattle.floats.proofs.Within.{within-value}
 use Rattle.floats.proofs.Integers.{int, int-value, within-mul, within-div-int, passes-float, int-within}
 use Rattle.numbers.specs.Whole.{roundAway}
 use Rattle.numbers.proofs.Sizes.{half-le}
-use Rattle.windows.specs.Set.{Set, Stored, windows, inUse}
+use Rattle.windows.specs.Set.{Set, Stored, windows, inUse, distanceOf}
 use Rattle.windows.specs.Store.{store32}
 use Rattle.normalizer.specs.declared.Normalized.{Normalized}
 use Rattle.normalizer.specs.declared.Normalized.the-variants.{Done as Normal}
@@ -183,4 +183,4 @@ module _ (q : Request) (lines : ℕ) (ws : List Float) (ss zs : List ℕ) (w : �
         let K = each n P some many (exact .1) in
         let all : sum (λ k. getD (held .set .weights) (i * w + k) (pos 0)) n ≡ pos (K * n) =
         sum-ext (λ k. getD (held .set .weights) (i * w + k) (pos 0)) (λ k. pos K) n stored-at ∙ sum-equal K n in
-        lt-ltb _ _ (rw (size-is, all, distance-pos (K * n) (2 ^ P)) (box n P some many (exact .0) (exact .1)))
+        lt-ltb (2 * 65535 * distanceOf held i) (2 ^ held .precision) (rw (size-is, all, distance-pos (K * n) (2 ^ P)) (box n P some many (exact .0) (exact .1)))

@@ -26,8 +26,8 @@ use Rattle.promises.proofs.Frames.{flat-unchanged}
 
 -- row i of an output is window i at each column
 row-of-output : {A : Type 0} (at : ℕ → ℕ → A) (n first count i : ℕ) → i < n → rowOf count i (output at n first count) ≡ tab 0 count (λ j. at i (first + j))
-row-of-output at n first count i h =
-    let cell = λ i j. at i (first + j) in
+row-of-output {A} at n first count i h =
+    let cell : ℕ → ℕ → A = λ i j. at i (first + j) in
     let rest = n * count - (i * count + count) in
     let e : n * count ≡ i * count + (count + rest) = omega (arith, row-end i n count h) in
     ap (λ m. take count (drop (i * count) (tab 0 m (grid count cell)))) e

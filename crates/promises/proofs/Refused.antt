@@ -104,8 +104,8 @@ zeroed-ready q ws ss zs p is h = go (short p (length ws) (length ss) (length zs)
 
 zeroed-at : (q : Request) (ws : List Float) (ss zs : List ℕ) (pl : Planned) → planOf q ≡ pl → NotEight pl → numberOfBuilt (judged pl (length ws) (length ss) (length zs) built.Refused builtBy) ≡ 8 → Zeroed q ws ss zs
 unfolding judged
-zeroed-at q ws ss zs (planned.Refused r) is no h = absurd (no h)
-zeroed-at q ws ss zs (planned.Ready p) is no h = zeroed-ready q ws ss zs p is h
+zeroed-at q ws ss zs (planned.Refused r) is other h = absurd (other h)
+zeroed-at q ws ss zs (planned.Ready p) is other h = zeroed-ready q ws ss zs p is h
 
 -- ---- the others: one list each
 normalized-kept : (store : Store) (s : Set Float) (a : Normalized) (old : List ℤ) → Not 0 (numberOfNormalized a) → writtenBy store s a old ≡ old
