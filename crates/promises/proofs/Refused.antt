@@ -28,7 +28,7 @@ use Rattle.coefficients.specs.declared.Planned.the-variants as planned
 use Rattle.coefficients.specs.declared.Built.the-variants as built
 use Rattle.coefficients.specs.Answer.{numberOf as numberOfBuilt}
 use Rattle.coefficients.specs.Lines.{firstBlank, orZero, weightsIn, startsIn, sizesIn}
-use Rattle.coefficients.specs.Request.{badOutput, noScale, short, edgeOf, planFor, scaled, afterCrop, planOf, judged, kept, built as builtBy}
+use Rattle.coefficients.specs.Request.{badOutput, noScale, tooFewSlots, edgeOf, planFor, scaled, afterCrop, planOf, judged, kept, built as builtBy}
 use Rattle.normalizer.specs.declared.Normalized.{Normalized}
 use Rattle.normalizer.specs.declared.Normalized.the-variants as normalized
 use Rattle.normalizer.specs.Answer.{normalizedOf, writtenBy, writtenOf, numberOf as numberOfNormalized}
@@ -79,7 +79,7 @@ plan-not-8 q = go (badOutput (q .output))
 kept-as : {A : Type 0} (old : A) (f : Plan → A) (a b c : ℕ) (pl : Planned) → Not 0 (numberOfBuilt (judged pl a b c built.Refused builtBy)) → Not 8 (numberOfBuilt (judged pl a b c built.Refused builtBy)) → judged pl a b c (kept old) f ≡ old
 unfolding judged orZero
 kept-as old f a b c (planned.Refused r) n0 n8 = refl
-kept-as old f a b c (planned.Ready p) n0 n8 = go (short p a b c) (ltb (firstBlank p) (p .output)) n0 n8
+kept-as old f a b c (planned.Ready p) n0 n8 = go (tooFewSlots p a b c) (ltb (firstBlank p) (p .output)) n0 n8
   where
     go : (s z : Bool) → Not 0 (numberOfBuilt (cond s (built.Refused TooFewSlots) (cond z (built.Blank (record { 0 = firstBlank p })) (built.Done (p .window))))) → Not 8 (numberOfBuilt (cond s (built.Refused TooFewSlots) (cond z (built.Blank (record { 0 = firstBlank p })) (built.Done (p .window))))) → cond s old (f p) ≡ old
     go true z n0 n8 = refl
@@ -89,9 +89,9 @@ kept-as old f a b c (planned.Ready p) n0 n8 = go (short p a b c) (ltb (firstBlan
 -- and where it is 8
 zeroed-ready : (q : Request) (ws : List Float) (ss zs : List ℕ) (p : Plan) → planOf q ≡ planned.Ready p → numberOfBuilt (judged (planned.Ready p) (length ws) (length ss) (length zs) built.Refused builtBy) ≡ 8 → Zeroed q ws ss zs
 unfolding judged orZero
-zeroed-ready q ws ss zs p is h = go (short p (length ws) (length ss) (length zs)) (ltb (firstBlank p) (p .output)) refl refl
+zeroed-ready q ws ss zs p is h = go (tooFewSlots p (length ws) (length ss) (length zs)) (ltb (firstBlank p) (p .output)) refl refl
   where
-    go : (s z : Bool) → short p (length ws) (length ss) (length zs) ≡ s → ltb (firstBlank p) (p .output) ≡ z → Zeroed q ws ss zs
+    go : (s z : Bool) → tooFewSlots p (length ws) (length ss) (length zs) ≡ s → ltb (firstBlank p) (p .output) ≡ z → Zeroed q ws ss zs
     go true z es ez = absurd (omega (arith, rw es at h))
     go false true es ez = record {
       plan = p;
