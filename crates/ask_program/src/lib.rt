@@ -1,5 +1,5 @@
 // The program `ask`: requests from standard input, an answer a line (docs/PROTOCOL.md). The lists that requests are read into and that are lent stand
-// here, once. One more group of requests is one more crate and one more line of `answered`.
+// here, once. One more group of requests is one more crate and one more line of `line`.
 mod buffer;
 mod input;
 mod line;

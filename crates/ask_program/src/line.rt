@@ -50,6 +50,47 @@ fn ended(whole: bool, s: Said, out: &mut [u8]) -> usize {
     s.n
 }
 
+// The groups of numbers, pixels, crops and weights.
+fn first_groups(
+    line: &[u8],
+    a: Said,
+    out: &mut [u8],
+    bytes: &mut [u8],
+    room: &mut [u8],
+    starts: &mut [u32],
+    sizes: &mut [u32],
+    narrow: &mut [i16],
+    wide: &mut [i32],
+    slots: &mut [f64],
+) -> Said {
+    let b = ask_numbers::answer(line, a, out);
+    let c = ask_alpha::answer(line, b, out, bytes, room);
+    let d = ask_crop::answer(line, c, out);
+    let e = ask_normalizer::answer(line, d, out, slots, starts, sizes, narrow, wide);
+    ask_weights::answer(line, e, out, slots, starts, sizes)
+}
+
+// The groups of frames and sheets.
+fn last_groups(
+    line: &[u8],
+    a: Said,
+    out: &mut [u8],
+    room: &mut [u8],
+    samples: &mut [u16],
+    columns: &mut [u16],
+    floats: &mut [f32],
+    sums: &mut [f32],
+    starts: &mut [u32],
+    sizes: &mut [u32],
+    narrow: &mut [i16],
+    wide: &mut [i32],
+    slots: &mut [f64],
+) -> Said {
+    let b = ask_passes::answer_u16(line, a, out, wide, starts, sizes, samples, columns);
+    let c = ask_passes::answer_f32(line, b, out, slots, starts, sizes, floats, sums);
+    ask_sheet::answer(line, c, out, narrow, wide, starts, sizes, room)
+}
+
 // The answer to the line at s.at .. s.to, if there is one; the output's place behind it.
 pub(crate) fn answered(
     s: State,
@@ -72,13 +113,32 @@ pub(crate) fn answered(
     let to = p.to;
     let line = &buf[from..to];
     let a = begun(s, line, out);
-    let b = ask_numbers::answer(line, a, out);
-    let c = ask_alpha::answer(line, b, out, bytes, room);
-    let d = ask_crop::answer(line, c, out);
-    let e = ask_normalizer::answer(line, d, out, slots, starts, sizes, narrow, wide);
-    let f = ask_weights::answer(line, e, out, slots, starts, sizes);
-    let g = ask_passes::answer_u16(line, f, out, wide, starts, sizes, samples, columns);
-    let h = ask_passes::answer_f32(line, g, out, slots, starts, sizes, floats, sums);
-    let i = ask_sheet::answer(line, h, out, narrow, wide, starts, sizes, room);
-    ended(s.whole, i, out)
+    let b = first_groups(
+        line,
+        a,
+        out,
+        bytes,
+        room,
+        starts,
+        sizes,
+        narrow,
+        wide,
+        slots,
+    );
+    let c = last_groups(
+        line,
+        b,
+        out,
+        room,
+        samples,
+        columns,
+        floats,
+        sums,
+        starts,
+        sizes,
+        narrow,
+        wide,
+        slots,
+    );
+    ended(s.whole, c, out)
 }
