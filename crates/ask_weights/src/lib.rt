@@ -33,17 +33,29 @@ pub fn answer(
     let Kind::Is(kind) = kind_read else {
         return answer_lines::told(answer_lines::bad(2, b'k', s.n, out));
     };
+    lists(request_of(kind, line), line, s.n, out, slots, starts, sizes)
+}
+
+// The lists are lent as long as the last three words say.
+fn lists(
+    r: Request,
+    line: &[u8],
+    n: usize,
+    out: &mut [u8],
+    slots: &mut [f64],
+    starts: &mut [u32],
+    sizes: &mut [u32],
+) -> Said {
     let a: usize = 0;
     let i = f64s::lend(line, 11, slots);
     let j = u32s::lend(line, 12, starts);
     let k = u32s::lend(line, 13, sizes);
-    let request = request_of(kind, line);
     build(
-        request,
+        r,
         &mut slots[a..i],
         &mut starts[a..j],
         &mut sizes[a..k],
-        s.n,
+        n,
         out,
     )
 }
@@ -69,7 +81,7 @@ fn axis_of(down: bool) -> Axis {
     Axis::Across
 }
 
-// The builder itself; the three numbers and the three lists.
+// The builder itself.
 fn build(
     r: Request,
     slots: &mut [f64],
@@ -79,13 +91,25 @@ fn build(
     out: &mut [u8],
 ) -> Said {
     let built = coefficients::build(r, slots, starts, sizes);
+    answer_lines::told(show(built, slots, starts, sizes, n, out))
+}
+
+// The three numbers and the three lists.
+fn show(
+    built: Built,
+    slots: &[f64],
+    starts: &[u32],
+    sizes: &[u32],
+    n: usize,
+    out: &mut [u8],
+) -> usize {
     let p = show_built(built, n, out);
     let q = emit::byte(b' ', p, out);
     let s = answer_lines::f64s::show(slots, q, out);
     let t = emit::byte(b' ', s, out);
     let u = answer_lines::u32s::show(starts, t, out);
     let v = emit::byte(b' ', u, out);
-    answer_lines::told(answer_lines::u32s::show(sizes, v, out))
+    answer_lines::u32s::show(sizes, v, out)
 }
 
 // The number of the answer, the first blank line, the window size.
