@@ -88,8 +88,8 @@ pub fn build(request: Request, weights: &mut [f64], starts: &mut [u32], sizes: &
         return Built::Refused(Refusal::TooFewSlots);
     }
     let line = lines::all_windows(p, weights, starts, sizes);
-    if line < p.output {
-        return Built::Blank(windows::DisplayLine(line));
+    if line.0 < p.output {
+        return Built::Blank(line);
     }
     Built::Done(p.window)
 }

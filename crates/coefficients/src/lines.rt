@@ -18,11 +18,11 @@ use windows::DisplayLine;
 use windows::Window;
 
 // The lines from a up to the end, none if it is past.
-fn lines_left(a: u32, stop: u32) -> usize
-    ensures answer { λ r. ⌜ r ≡ stop - a ⌝ }
+fn lines_left(a: CameraLine, stop: CameraLine) -> usize
+    ensures answer { λ r. ⌜ r ≡ stop .0 - a .0 ⌝ }
 {
-    if a < stop {
-        return (stop - a) as usize;
+    if a.0 < stop.0 {
+        return (stop.0 - a.0) as usize;
     }
     0
 }
@@ -46,7 +46,7 @@ fn one_window(p: Plan, line: DisplayLine, row: &mut [f64]) -> Span
     finish(n, total, row);
     Span {
         window: Window {
-            start: CameraLine(a),
+            start: a,
             size: size,
         },
         total: total,
@@ -83,9 +83,9 @@ pub(crate) fn all_windows(
     weights: &mut [f64],
     starts: &mut [u32],
     sizes: &mut [u32],
-) -> u32
+) -> DisplayLine
     requires { ⌜ Sound p ⌝ ∗ ⌜ ListsFit p (length (now weights)) (length (now starts)) (length (now sizes)) ⌝ }
-    ensures answer { λ r. ⌜ r ≡ firstBlank p ⌝ }
+    ensures answer { λ r. ⌜ r .0 ≡ firstBlank p ⌝ }
     ensures written { λ _. ⌜ now (weights .exit) ≡ weightsIn p (now (weights .entry)) ⌝ }
     ensures written2 { λ _. ⌜ now (starts .exit) ≡ startsIn p (now (starts .entry)) ⌝ }
     ensures written3 { λ _. ⌜ now (sizes .exit) ≡ sizesIn p (now (sizes .entry)) ⌝ }
@@ -102,12 +102,12 @@ pub(crate) fn all_windows(
             zero_weights(slots, weights);
             zero_lines(n, starts);
             zero_lines(n, sizes);
-            return k as u32;
+            return DisplayLine(k as u32);
         }
         starts[k] = span.window.start.0;
         sizes[k] = span.window.size;
         a = e;
         k += 1;
     }
-    k as u32
+    DisplayLine(k as u32)
 }

@@ -7,39 +7,53 @@ ghost use Rattle.lists.specs.Tab.{tab, front};
 ghost use Rattle.coefficients.specs.Weights.{lineWeight, leadOf, weightFrom, totalOf, upTo, shareOf};
 ghost use Rattle.coefficients.specs.Inner.{weighty, shareAt};
 use filters::FilterType;
+use windows::CameraLine;
 
 // The weight of the camera line x, before the division; c is the centre less 0.5.
-fn line_weight(f: FilterType, c: f64, recip: f64, x: u32) -> f64
-    ensures answer { λ r. ⌜ r ≡ lineWeight f c recip x ⌝ }
+fn line_weight(f: FilterType, c: f64, recip: f64, x: CameraLine) -> f64
+    ensures answer { λ r. ⌜ r ≡ lineWeight f c recip (x .0) ⌝ }
 {
-    filters::value(f, (x as f64 - c) * recip)
+    filters::value(f, (x.0 as f64 - c) * recip)
 }
 
 // The first line of the range whose weight is not 0, or its end: leading zeros are dropped.
-pub(crate) fn lead(f: FilterType, c: f64, recip: f64, start: u32, stop: u32) -> u32
-    ensures answer { λ r. ⌜ r ≡ leadOf f c recip start stop ⌝ }
+pub(crate) fn lead(
+    f: FilterType,
+    c: f64,
+    recip: f64,
+    start: CameraLine,
+    stop: CameraLine,
+) -> CameraLine
+    ensures answer { λ r. ⌜ r .0 ≡ leadOf f c recip (start .0) (stop .0) ⌝ }
 {
-    let mut x = start;
-    while x < stop {
-        if !(line_weight(f, c, recip, x) == 0.0) {
-            return x;
+    let mut x = start.0;
+    while x < stop.0 {
+        if !(line_weight(f, c, recip, CameraLine(x)) == 0.0) {
+            return CameraLine(x);
         }
         x += 1;
     }
-    x
+    CameraLine(x)
 }
 
 // The weights of n lines from the line a on, into the first n slots; their total, in line order from +0.
-pub(crate) fn weigh(f: FilterType, c: f64, recip: f64, a: u32, n: usize, row: &mut [f64]) -> f64
-    requires { ⌜ (n ≤ length (now row)) × (a + n < 2 ^ 32) ⌝ }
-    ensures answer { λ r. ⌜ r ≡ totalOf f c recip a n ⌝ }
-    ensures written { λ _. ⌜ now (row .exit) ≡ front n (weightFrom f c recip a) (now (row .entry)) ⌝ }
+pub(crate) fn weigh(
+    f: FilterType,
+    c: f64,
+    recip: f64,
+    a: CameraLine,
+    n: usize,
+    row: &mut [f64],
+) -> f64
+    requires { ⌜ (n ≤ length (now row)) × (a .0 + n < 2 ^ 32) ⌝ }
+    ensures answer { λ r. ⌜ r ≡ totalOf f c recip (a .0) n ⌝ }
+    ensures written { λ _. ⌜ now (row .exit) ≡ front n (weightFrom f c recip (a .0)) (now (row .entry)) ⌝ }
 {
     let mut total = 0.0;
-    let mut x = a;
+    let mut x = a.0;
     let mut k: usize = 0;
     while k < n {
-        let w = line_weight(f, c, recip, x);
+        let w = line_weight(f, c, recip, CameraLine(x));
         row[k] = w;
         total = total + w;
         x += 1;

@@ -101,15 +101,15 @@ same-length-3 c = search needs
 
 returns-5 : tie.Need-returns-5
 returns-5 c =
-    let known = c .before .before .before .before .before .before .before .before .before .before .before .before .before .before .before .before .before .before in
+    let known = c .before .before .before .before .before .before .before .before .before .before .before .before .before .before .before .before .before .before .before in
     let st = known .before .before .before .before .before .before in
     let p = known .planned .given .0 .0 in
     let q = st .args .request in
     let e : planOf q ≡ Ready p = sym (known .before .before .prepare .ensures) ∙ known .planned .given .1 in
-    let w = c .before .before .before .before .before .before .before .before .all-windows in
+    let w = c .before .before .before .before .before .before .before .before .before .all-windows in
     all-ready q (st .args .weights .now) (st .args .starts .now) (st .args .sizes .now) p e _ (w .last .1 .0) (w .last .1 .1 .0) (w .last .1 .1 .1 .0)
-    (enough p (length (st .args .weights .now)) (length (st .args .starts .now)) (length (st .args .sizes .now)) (c .before .before .before .before .before .before .before .before .before .before .before .before .before .before .if1 .left) (c .before .before .before .before .before .before .before .before .before .before .before .before .before .if2 .left) (c .before .before .before .before .before .before .before .before .before .before .before .before .if3 .left))
-    (built-blank p (w .result) (w .ensures .0) (c .if4 .taken)) (w .ensures .1 .0) (w .ensures .1 .1 .0) (w .ensures .1 .1 .1)
+    (enough p (length (st .args .weights .now)) (length (st .args .starts .now)) (length (st .args .sizes .now)) (c .before .before .before .before .before .before .before .before .before .before .before .before .before .before .before .if1 .left) (c .before .before .before .before .before .before .before .before .before .before .before .before .before .before .if2 .left) (c .before .before .before .before .before .before .before .before .before .before .before .before .before .if3 .left))
+    (built-blank p (w .result .0) (w .ensures .0) (c .if4 .taken)) (w .ensures .1 .0) (w .ensures .1 .1 .0) (w .ensures .1 .1 .1)
 
 same-length-4 : tie.Need-same-length-4
 same-length-4 c = search needs
@@ -122,15 +122,15 @@ same-length-6 c = search needs
 
 returns-6 : tie.Need-returns-6
 returns-6 c =
-    let known = c .before .before .before .before .before .before .before .before .before .before .before .before .before .before .before .before .before .before in
+    let known = c .before .before .before .before .before .before .before .before .before .before .before .before .before .before .before .before .before .before .before in
     let st = known .before .before .before .before .before .before in
     let p = known .planned .given .0 .0 in
     let q = st .args .request in
     let e : planOf q ≡ Ready p = sym (known .before .before .prepare .ensures) ∙ known .planned .given .1 in
-    let w = c .before .before .before .before .before .before .before .before .all-windows in
+    let w = c .before .before .before .before .before .before .before .before .before .all-windows in
     all-ready q (st .args .weights .now) (st .args .starts .now) (st .args .sizes .now) p e _ (w .last .1 .0) (w .last .1 .1 .0) (w .last .1 .1 .1 .0)
-    (enough p (length (st .args .weights .now)) (length (st .args .starts .now)) (length (st .args .sizes .now)) (c .before .before .before .before .before .before .before .before .before .before .before .before .before .before .if1 .left) (c .before .before .before .before .before .before .before .before .before .before .before .before .before .if2 .left) (c .before .before .before .before .before .before .before .before .before .before .before .before .if3 .left))
-    (built-done p (w .result) (w .ensures .0) (c .if4 .left)) (w .ensures .1 .0) (w .ensures .1 .1 .0) (w .ensures .1 .1 .1)
+    (enough p (length (st .args .weights .now)) (length (st .args .starts .now)) (length (st .args .sizes .now)) (c .before .before .before .before .before .before .before .before .before .before .before .before .before .before .before .if1 .left) (c .before .before .before .before .before .before .before .before .before .before .before .before .before .before .if2 .left) (c .before .before .before .before .before .before .before .before .before .before .before .before .before .if3 .left))
+    (built-done p (w .result .0) (w .ensures .0) (c .if4 .left)) (w .ensures .1 .0) (w .ensures .1 .1 .0) (w .ensures .1 .1 .1)
 
 pub build-spec : {M : Type 1} → statement M
 build-spec =

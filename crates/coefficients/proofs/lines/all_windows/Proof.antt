@@ -100,8 +100,8 @@ zero-lines-requires c κs = search needs
 zero-lines-requires-2 : tie.Need-zero-lines-requires-2 Inv-loop μ-loop
 zero-lines-requires-2 c κs = search needs
 
-cast-result : tie.Need-cast-result Inv-loop μ-loop
-cast-result c = search needs
+cast-t27 : tie.Need-cast-t27 Inv-loop μ-loop
+cast-t27 c = search needs
 
 same-length : tie.Need-same-length Inv-loop μ-loop
 same-length c = search needs
@@ -174,8 +174,8 @@ loop-again c =
       at .loop .inv .5 ∙ first-on (blank p) k (p .output - k) (omega arith) sound ∙ rw left,
     )
 
-cast-result-2 : tie.Need-cast-result-2 Inv-loop μ-loop
-cast-result-2 c = search needs
+cast-t30 : tie.Need-cast-t30 Inv-loop μ-loop
+cast-t30 c = search needs
 
 same-length-4 : tie.Need-same-length-4 Inv-loop μ-loop
 same-length-4 c = search needs
@@ -226,7 +226,7 @@ all-windows-spec =
     zero-weights-requires
     zero-lines-requires
     zero-lines-requires-2
-    cast-result
+    cast-t27
     same-length
     same-length-2
     same-length-3
@@ -238,7 +238,7 @@ all-windows-spec =
     add-k
     loop-less
     loop-again
-    cast-result-2
+    cast-t30
     same-length-4
     same-length-5
     same-length-6

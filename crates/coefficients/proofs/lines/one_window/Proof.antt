@@ -14,18 +14,18 @@ use Rattle.coefficients.specs.Inner.{weighty}
 use Rattle.coefficients.proofs.LineLaws.{held-room, lead-is, held-is, total-is, size-is, row-is, span-is}
 use Rattle.coefficients.proofs.WeightLaws.{up-le}
 
-lead-eq : (c : tie.After-lines-left) → c .before .lead .result ≡ lead (c .before .before .before .before .before .before .before .before .args .p) (c .before .before .before .before .before .before .before .before .args .line .0)
+lead-eq : (c : tie.After-lines-left) → c .before .lead .result .0 ≡ lead (c .before .before .before .before .before .before .before .before .args .p) (c .before .before .before .before .before .before .before .before .args .line .0)
 unfolding centre
 lead-eq c =
     let s = c .before .before .before .before .before .before .before .before .args in
-    lead-is (s .p) (s .line .0) (c .before .before .before .range-start .result) (c .before .before .range-end .result) (c .before .lead .result)
+    lead-is (s .p) (s .line .0) (c .before .before .before .range-start .result .0) (c .before .before .range-end .result .0) (c .before .lead .result .0)
     (c .before .before .before .range-start .ensures) (c .before .before .range-end .ensures) (c .before .lead .ensures)
 
 held-eq : (c : tie.After-lines-left) → c .lines-left .result ≡ held (c .before .before .before .before .before .before .before .before .args .p) (c .before .before .before .before .before .before .before .before .args .line .0)
 unfolding centre
 held-eq c =
     let s = c .before .before .before .before .before .before .before .before .args in
-    held-is (s .p) (s .line .0) (c .before .before .range-end .result) (c .before .lead .result) (c .lines-left .result)
+    held-is (s .p) (s .line .0) (c .before .before .range-end .result .0) (c .before .lead .result .0) (c .lines-left .result)
     (c .before .before .range-end .ensures) (lead-eq c) (c .lines-left .ensures)
 
 room : (c : tie.After-lines-left) → c .lines-left .result ≤ length (c .before .before .before .before .before .before .before .before .args .row .now)
@@ -55,7 +55,7 @@ lines-left-requires c κs = search needs
 
 weigh-requires : tie.Need-weigh-requires
 unfolding centre
-weigh-requires c κs = (room (c .before), small (c .before .before .lead .result) (c .before .before .before .range-end .result) (c .before .lines-left .result) (c .before .lines-left .ensures) (omega arith) (omega arith))
+weigh-requires c κs = (room (c .before), small (c .before .before .lead .result .0) (c .before .before .before .range-end .result .0) (c .before .lines-left .result) (c .before .lines-left .ensures) (omega arith) (omega arith))
 
 trim-requires : tie.Need-trim-requires
 unfolding centre
@@ -63,7 +63,7 @@ trim-requires c κs =
     let at = c .before .before .before in
     let s = at .before .before .before .before .before .before .before .before .before .before .args in
     let n = at .before .before .lines-left .result in
-    let f = weightFrom (s .p .filter) (middle (s .p) (s .line .0)) (s .p .recip) (at .before .before .before .lead .result) in
+    let f = weightFrom (s .p .filter) (middle (s .p) (s .line .0)) (s .p .recip) (at .before .before .before .lead .result .0) in
     let long : length (at .weigh .last .1 .1 .1 .1 .1 .0) ≡ length (s .row .now) =
     rw (at .weigh .ensures .1) (length-front n f (s .row .now) (room (at .before .before))) in
     le-trans (room (at .before .before)) (le-of-eq (sym long))
@@ -91,7 +91,7 @@ returns c =
     let st = left .before .before .before .before .before .before .before .before in
     let p = st .args .p in
     let i = st .args .line .0 in
-    let a = left .before .lead .result in
+    let a = left .before .lead .result .0 in
     let n = left .lines-left .result in
     let t = at .weigh .result in
     let row1 = at .weigh .last .1 .1 .1 .1 .1 .0 in

@@ -12,8 +12,8 @@ use Rattle.coefficients.proofs.ranges.range_start.Tie as tie
 floor-requires : tie.Need-floor-requires
 floor-requires c κs = search needs
 
-float-to-int-result : tie.Need-float-to-int-result
-float-to-int-result c = let b = c .before .before in in-floor (b .before .args .centre) (b .before .args .radius) (c .before .floor .result) (b .before .pre .0) (b .before .pre .1) (b .if1 .taken) (c .before .floor .ensures)
+float-to-int-t6 : tie.Need-float-to-int-t6
+float-to-int-t6 c = let b = c .before .before in in-floor (b .before .args .centre) (b .before .args .radius) (c .before .floor .result) (b .before .pre .0) (b .before .pre .1) (b .if1 .taken) (c .before .floor .ensures)
 
 returns : tie.Need-returns
 returns c = let b = c .before .before in ap (toUnsigned 32) (c .before .floor .ensures) ∙ sym (start-is (b .before .args .centre) (b .before .args .radius))
@@ -22,4 +22,4 @@ returns-2 : tie.Need-returns-2
 returns-2 c = let b = c .before in floor-none (sub binary64 (b .args .centre) (b .args .radius)) (2 ^ 30) (lit< tt) (sub-sort (b .args .centre) (b .args .radius) (2 ^ 30) (2 ^ 30) (b .pre .0) (b .pre .1) (lit≤ tt)) (c .if1 .left) ∙ sym (start-is (b .args .centre) (b .args .radius))
 
 pub range-start-spec : {M : Type 1} → statement M
-range-start-spec = tie.close (tie.spec floor-requires float-to-int-result returns returns-2)
+range-start-spec = tie.close (tie.spec floor-requires float-to-int-t6 returns returns-2)

@@ -12,11 +12,11 @@ use borrow.Author.Needs.{needs}
 use native.Mathlib.Omega.{arith}
 
 abbrev Inv-loop : tie.InvT-loop
-Inv-loop f c recip a n row₀ total₀ x₀ k₀ row total x k =
-    (k ≤ n) × (x ≡ a + k) × (total ≡ turns (addTo f c recip a) zero64 k) × Written k (weightFrom f c recip a) row₀ row
+Inv-loop f c recip n row₀ total₀ x₀ k₀ row total x k =
+    (k ≤ n) × (x ≡ x₀ + k) × (total ≡ turns (addTo f c recip x₀) zero64 k) × Written k (weightFrom f c recip x₀) row₀ row
 
 abbrev μ-loop : tie.MeasureT-loop
-μ-loop f c recip a n row₀ total₀ x₀ k₀ row total x k = n - k
+μ-loop f c recip n row₀ total₀ x₀ k₀ row total x k = n - k
 
 loop-holds : tie.Need-loop-holds Inv-loop μ-loop
 loop-holds c = (omega arith, omega arith, refl, written-none)
@@ -43,11 +43,11 @@ loop-again : tie.Need-loop-again Inv-loop μ-loop
 loop-again c =
     let at = c .before .before in
     let args = at .before .before .args in
-    let is : c .line-weight .result ≡ weightFrom (args .f) (args .c) (args .recip) (args .a) (at .loop .k) =
+    let is : c .line-weight .result ≡ weightFrom (args .f) (args .c) (args .recip) (args .a .0) (at .loop .k) =
     c .line-weight .ensures ∙ ap (lineWeight (args .f) (args .c) (args .recip)) (at .loop .inv .1) in (
       search needs,
       omega arith,
-      rw (at .loop .inv .2, is) (turns-more (addTo (args .f) (args .c) (args .recip) (args .a)) zero64 (at .loop .k)),
+      rw (at .loop .inv .2, is) (turns-more (addTo (args .f) (args .c) (args .recip) (args .a .0)) zero64 (at .loop .k)),
       written-more (at .loop .inv .3) (search needs) is,
     )
 
