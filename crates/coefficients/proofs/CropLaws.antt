@@ -12,7 +12,7 @@ use Rattle.lists.proofs.RangeLaws.{first-side, second-side}
 use Rattle.crop_box.specs.declared.CropBox.{CropBox}
 use Rattle.crop_box.specs.declared.Cropped.the-variants.{Inside}
 use Rattle.crop_box.specs.Crop.{cropOf, numberOf, boxOf, notFinite, negativeExtent, startOutside, endOutside}
-use Rattle.crop_box.proofs.Rows.{crop-0}
+use Rattle.crop_box.proofs.Rows.{crop-exactly}
 use Rattle.floats.specs.Doubles.{isFinite, zero64}
 use Rattle.coefficients.proofs.Bounds.{Passed}
 
@@ -62,10 +62,10 @@ both w h b e1 e2 e3 e4 e5 =
 
 same-box : (w h : ℕ) (b : CropBox) → numberOf (cropOf w h b) ≡ 0 → boxOf (cropOf w h b) ≡ b
 unfolding cropOf
-same-box w h b e = let all = crop-0 w h b .0 e in rw (all .0, all .1, all .2, all .3, all .4)
+same-box w h b e = let all = crop-exactly w h b 0 .0 e in rw (all .0, all .1 .0, all .1 .1 .0, all .1 .1 .1 .0, all .1 .1 .1 .1 .0)
 
 pub crop-passed : (w h : ℕ) (b b' : CropBox) → cropOf w h b ≡ Inside b' → Both w h b'
 crop-passed w h b b' e =
     let zero : numberOf (cropOf w h b) ≡ 0 = ap numberOf e in
-    let all = crop-0 w h b .0 zero in
-    subst (Both w h) (sym (same-box w h b zero) ∙ ap boxOf e) (both w h b (all .0) (all .1) (all .2) (all .3) (all .4))
+    let all = crop-exactly w h b 0 .0 zero in
+    subst (Both w h) (sym (same-box w h b zero) ∙ ap boxOf e) (both w h b (all .0) (all .1 .0) (all .1 .1 .0) (all .1 .1 .1 .0) (all .1 .1 .1 .1 .0))

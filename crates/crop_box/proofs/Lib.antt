@@ -1,4 +1,3 @@
 pub mod Sure
 pub mod Rows
-pub mod RowLaws
 pub mod Examples

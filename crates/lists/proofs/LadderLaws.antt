@@ -1,5 +1,4 @@
--- A ladder gives a number exactly when that number is due, and what is read off an answer is read off each rung. Cited wherever a table of refusals is stated as
--- "exactly when". Assumes nothing.
+-- A ladder gives a number exactly when that number is due. Cited wherever a table of refusals is stated as "exactly when". Assumes nothing.
 use mathlib.Core.Path.{_≡_, refl, sym}
 use mathlib.Core.Bool.{Bool, true, false, cond, not, _&&_}
 use mathlib.Core.List.{List, [], _∷_}
@@ -8,11 +7,6 @@ use lib.Dec.{eqb}
 use borrow.Author.Tests.{eqb-true, eqb-false, eq-eqb, not-true}
 use Rattle.lists.specs.Ladder.{Exactly, given, Choice, Due, fresh, apart}
 use Rattle.lists.proofs.BoolLaws.{never, and-left, and-right}
-
--- f of an answer that a test chose
-pub under : {A B : Type 0} (f : A → B) (t : Bool) (a r : A) → f (cond t a r) ≡ cond t (f a) (f r)
-under f true a r = refl
-under f false a r = refl
 
 -- a rung of another number and what follows it give another number
 past : (t : Bool) (n m r : ℕ) → (n ≡ m → ⊥) → (r ≡ n → ⊥) → cond t m r ≡ n → ⊥
