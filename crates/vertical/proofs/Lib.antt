@@ -3,3 +3,4 @@ pub mod Columns
 pub mod Turns
 pub mod Table
 pub mod Sure
+pub mod Rows
