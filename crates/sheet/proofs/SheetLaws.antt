@@ -21,7 +21,7 @@ use Rattle.windows.specs.Set.{Stored, windows}
 use Rattle.windows.specs.Store.{weightBits}
 use Rattle.windows.specs.Fit.{Fits}
 use Rattle.sheet.specs.Keys.{keyIn, keyOut, keyWindow, keyStore, keyPrecision, keyLine, equals, comma, newline, kindName}
-use Rattle.sheet.specs.Text.{kindText, sidesText, storeText, headText, itemText, weightAt, weightsText, openText, windowAt, windowsText, sheetText}
+use Rattle.sheet.specs.Text.{kindText, sidesText, storeText, headText, itemText, itemAt, weightsText, openText, windowAt, windowsText, sheetText}
 
 name-small : (kind : FilterType) → length (kindName kind) ≤ 10
 unfolding kindName
@@ -46,7 +46,7 @@ item-small j v = omega (arith, length-append (cond (eqb j 0) [] comma) (signed v
 
 weights-small : (ws : List ℤ) (from n : ℕ) → length (weightsText ws from n) ≤ n * 22
 unfolding weightsText
-weights-small ws from n = joined-small (weightAt ws from) 22 n (λ k l. item-small k (getD ws (from + k) (pos 0)))
+weights-small ws from n = joined-small (itemAt ws from) 22 n (λ k l. item-small k (getD ws (from + k) (pos 0)))
 
 open-small : (i start size : ℕ) → length (openText i start size) ≤ 64
 unfolding openText

@@ -34,12 +34,12 @@ unfoldable pub itemText : ℕ → ℤ → List ℕ
 itemText j v = cond (eqb j 0) [] comma ++ signed v
 
 -- the same, of the weight in slot from + j
-abbrev pub weightAt : List ℤ → ℕ → ℕ → List ℕ
-weightAt ws from j = itemText j (getD ws (from + j) (pos 0))
+abbrev pub itemAt : List ℤ → ℕ → ℕ → List ℕ
+itemAt ws from j = itemText j (getD ws (from + j) (pos 0))
 
 -- n weights from the slot `from` on: those in use
 unfoldable pub weightsText : List ℤ → ℕ → ℕ → List ℕ
-weightsText ws from n = joined (weightAt ws from) n
+weightsText ws from n = joined (itemAt ws from) n
 
 -- the beginning of a window's line: its number, first camera line and count of lines, as in w0=0,2:
 unfoldable pub openText : ℕ → ℕ → ℕ → List ℕ

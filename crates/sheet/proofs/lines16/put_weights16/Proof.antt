@@ -10,13 +10,13 @@ use mir.Val.{SFits, toZ, ofZ}
 use borrow.Author.Needs.{needs}
 use Rattle.text.specs.Text.{joined}
 use Rattle.text.proofs.TextLaws.{Laid, laid-none, laid-piece, laid-long}
-use Rattle.sheet.specs.Text.{weightAt, weightsText}
+use Rattle.sheet.specs.Text.{itemAt, weightsText}
 use Rattle.sheet.proofs.SheetLaws.{wide-back}
 use Rattle.sheet.proofs.lines16.put_weights16.Statement.{statement}
 use Rattle.sheet.proofs.lines16.put_weights16.Tie as tie
 
 abbrev Inv-loop : tie.InvT-loop
-Inv-loop weights from size at out₀ n p₀ j₀ out p j = (j ≤ n) × Laid at (joined (weightAt weights from) j) out₀ p out
+Inv-loop weights from size at out₀ n p₀ j₀ out p j = (j ≤ n) × Laid at (joined (itemAt weights from) j) out₀ p out
 
 abbrev μ-loop : tie.MeasureT-loop
 μ-loop weights from size at out₀ n p₀ j₀ out p j = n - j
@@ -64,7 +64,7 @@ loop-again c =
     let args = at .before .before .args in
     let put = c .before .before .put-item in
     let same = back (c .before .before .before .before) in
-    (search needs, laid-piece (weightAt (args .weights .now) (args .from)) (at .loop .j) (at .loop .inv .1) (put .ensures .0 ∙ rw same) (put .ensures .1 ∙ rw same))
+    (search needs, laid-piece (itemAt (args .weights .now) (args .from)) (at .loop .j) (at .loop .inv .1) (put .ensures .0 ∙ rw same) (put .ensures .1 ∙ rw same))
 
 same-length : tie.Need-same-length Inv-loop μ-loop
 same-length c = laid-long (c .before .loop .inv .1)
