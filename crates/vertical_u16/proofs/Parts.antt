@@ -1,4 +1,4 @@
--- Columns that a turn writes side by side are the row's, in integers and in doubles; and a row written in three runs is whole. Cited by the functions of `columns`.
+-- Columns that a turn writes side by side are the row's, in integers and in doubles. Cited by the functions of `columns` and `sums`.
 -- Assumes nothing.
 use mathlib.Core.Path.{_≡_, sym, ap, _∙_}
 use mathlib.Core.List.{List}
@@ -9,13 +9,18 @@ use lib.Ieee.{Float, nan}
 use lib.ListN.{length, getD}
 use lib.Signed.{shrZ}
 use Rattle.lists.specs.Tab.{tab, front}
-use Rattle.lists.proofs.TabLaws.{tab-ext, front-over, front-whole}
+use Rattle.lists.proofs.TabLaws.{tab-ext, front-over}
 use Rattle.floats.specs.Halves.{far}
 use Rattle.integers.specs.Sums.{clipped}
 use Rattle.integers.proofs.Floors.{shifted-from}
 use Rattle.vertical.specs.Column.{columnSum, columnValue, rowValue}
 use Rattle.vertical_u16.specs.Chunks.{clippedAt, halfMore, topOf, cutAt}
 use Rattle.vertical_u16.proofs.Rounded.{cut-as}
+
+-- one column's sum, from the half of 2^p on
+pub column-is : (p : ℕ) (ws : List ℤ) (src : List ℕ) (at row n : ℕ) → clipped 65535 (shrZ (pos (2 ^ (p - 1)) +ℤ columnSum ws src at row n) (2 ^ p)) ≡ columnValue 65535 p ws src at row n
+unfolding columnSum
+column-is p ws src at row n = ap (clipped 65535) (shifted-from p (columnSum ws src at row n))
 
 module _ (p : ℕ) (ws : List ℤ) (src : List ℕ) (at row j n : ℕ) where
   abbrev Row : ℕ → ℕ
@@ -41,14 +46,6 @@ module _ (p : ℕ) (ws : List ℤ) (src : List ℕ) (at row j n : ℕ) where
   double-part ss {top} {big} one few small each et eb e =
       e ∙ tab-ext 0 n (cutAt ss top big) (λ t. Row (j + t)) (λ t l. rw zero-add (cut-as p (Sum t) one few (small t l) (each t l) et eb ∙ value-at t))
 
--- ---- a row in runs: to a, then to b, then to the end
-module _ {A : Type 0} (f : ℕ → A) (old : List A) (a : ℕ) {now : List A} (is : now ≡ front a f old) where
-  -- what is done already would be written again as it is
-  pub done-again : now ≡ front a f now
-  done-again = is ∙ sym (front-over a a f f old (le-refl a)) ∙ ap (front a f) (sym is)
-
-  pub run-on : (b : ℕ) {new : List A} → a ≤ b → new ≡ front b f now → new ≡ front b f old
-  run-on b l e = e ∙ ap (front b f) is ∙ front-over b a f f old l
-
-  pub run-whole : a ≡ length old → now ≡ tab 0 (length old) f
-  run-whole e = is ∙ ap (λ (n : ℕ). front n f old) e ∙ front-whole f old
+-- ---- what is done already would be written again as it is
+pub done-again : {A : Type 0} (f : ℕ → A) (old : List A) (a : ℕ) {now : List A} → now ≡ front a f old → now ≡ front a f now
+done-again f old a is = is ∙ sym (front-over a a f f old (le-refl a)) ∙ ap (front a f) (sym is)

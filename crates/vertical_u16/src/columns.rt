@@ -1,9 +1,10 @@
-// One window's row: sixteen columns side by side, then four, then one.
+// One window's row: sixteen columns side by side, then the rest one by one.
 use super::arithmetic::clip;
 use super::arithmetic::half;
 use super::doubles;
 use super::rounding;
-use super::sums::column_sums;
+use super::sums::pixel;
+use super::sums::sums16;
 ghost use mathlib.Core.Path.{_≡_};
 ghost use Prim.Native.Nat.{ℕ, _+_, _*_, _^_, _<_, _≤_};
 ghost use lib.ListN.{length};
@@ -24,18 +25,8 @@ fn put_columns(ss: [i64; 16], p: u32, out: &mut [u16])
     }
 }
 
-// The columns from `from` on in integers, n side by side as long as n are left; the first column that is left. What stands before `from` is done.
-fn chunks(
-    n: usize,
-    src: &[u16],
-    row: usize,
-    at0: usize,
-    ws: &[i32],
-    p: u32,
-    out: &mut [u16],
-    from: usize,
-) -> usize
-    requires { ⌜ (1 ≤ n) × (n ≤ 16) ⌝ }
+// The columns from `from` on, one by one. What stands before `from` is done.
+fn tail(src: &[u16], row: usize, at0: usize, ws: &[i32], p: u32, out: &mut [u16], from: usize)
     requires { ⌜ (1 ≤ p) × (p ≤ 45) ⌝ }
     requires { ⌜ row ≤ 32768 ⌝ }
     requires { ⌜ length (now ws) ≤ 8192 ⌝ }
@@ -43,14 +34,30 @@ fn chunks(
     requires { ⌜ at0 + length (now out) < 2 ^ 63 ⌝ }
     requires { ⌜ from ≤ length (now out) ⌝ }
     requires { ⌜ now out ≡ front from (rowValue 65535 p (now ws) (now src) at0 row (length (now ws))) (now out) ⌝ }
-    ensures { λ r. ⌜ (from ≤ r) × (r ≤ length (now (out .entry))) × (length (now (out .entry)) < r + n) ⌝ }
+    ensures { λ _. ⌜ now (out .exit) ≡ tab 0 (length (now (out .entry))) (rowValue 65535 p (now (ws .entry)) (now (src .entry)) at0 row (length (now (ws .entry)))) ⌝ }
+{
+    let mut j = from;
+    while j < out.len() {
+        out[j] = pixel(src, row, at0 + j, ws, p);
+        j = j + 1;
+    }
+}
+
+// Sixteen columns side by side in integers, for windows of any number of lines; the first column that is left.
+fn long_chunks(src: &[u16], row: usize, at0: usize, ws: &[i32], p: u32, out: &mut [u16]) -> usize
+    requires { ⌜ (1 ≤ p) × (p ≤ 45) ⌝ }
+    requires { ⌜ row ≤ 32768 ⌝ }
+    requires { ⌜ length (now ws) ≤ 8192 ⌝ }
+    requires { ⌜ ((k : ℕ) → k < length (now ws) → at0 + k * row + length (now out) ≤ length (now src)) ⌝ }
+    requires { ⌜ at0 + length (now out) < 2 ^ 63 ⌝ }
+    ensures { λ r. ⌜ r ≤ length (now (out .entry)) ⌝ }
     ensures { λ r. ⌜ now (out .exit) ≡ front r (rowValue 65535 p (now (ws .entry)) (now (src .entry)) at0 row (length (now (ws .entry)))) (now (out .entry)) ⌝ }
 {
     let init = half(p);
-    let mut j = from;
-    while n <= out.len() - j {
-        let e = j + n;
-        let ss = column_sums(init, n, src, row, at0 + j, ws);
+    let mut j: usize = 0;
+    while 16 <= out.len() - j {
+        let e = j + 16;
+        let ss = sums16(init, src, row, at0 + j, ws);
         put_columns(ss, p, &mut out[j..e]);
         j = e;
     }
@@ -92,7 +99,7 @@ fn sixteens(src: &[u16], row: usize, at0: usize, ws: &[i32], p: u32, out: &mut [
     if ws.len() <= 32 {
         short_chunks(src, row, at0, ws, p, out)
     } else {
-        chunks(16, src, row, at0, ws, p, out, 0)
+        long_chunks(src, row, at0, ws, p, out)
     }
 }
 
@@ -106,6 +113,5 @@ pub(crate) fn fill(src: &[u16], row: usize, at0: usize, ws: &[i32], p: u32, out:
     ensures { λ _. ⌜ now (out .exit) ≡ tab 0 (length (now (out .entry))) (rowValue 65535 p (now (ws .entry)) (now (src .entry)) at0 row (length (now (ws .entry)))) ⌝ }
 {
     let a = sixteens(src, row, at0, ws, p, out);
-    let b = chunks(4, src, row, at0, ws, p, out, a);
-    let _ = chunks(1, src, row, at0, ws, p, out, b);
+    tail(src, row, at0, ws, p, out, a);
 }

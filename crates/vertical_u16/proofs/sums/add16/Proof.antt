@@ -10,18 +10,18 @@ use mir.Syntax.{w32}
 use mir.Val.{toZ, ofZ}
 use Rattle.lists.proofs.StoreLaws.{set-below, set-above}
 use Rattle.vertical_u16.proofs.ReadBack.{back}
-use Rattle.vertical_u16.proofs.sums.add_columns.Statement.{statement}
-use Rattle.vertical_u16.proofs.sums.add_columns.Tie as tie
+use Rattle.vertical_u16.proofs.sums.add16.Statement.{statement}
+use Rattle.vertical_u16.proofs.sums.add16.Tie as tie
 
 abbrev Inv-loop : tie.InvT-loop
-Inv-loop n src at w r₀ t₀ r t =
-    (t ≤ n)
+Inv-loop src at w r₀ t₀ r t =
+    (t ≤ 16)
     × (length r ≡ 16)
     × ((x : ℕ) → x < t → getD r x (pos 0) ≡ getD r₀ x (pos 0) +ℤ toZ w32 w *ℤ pos (getD src (at + x) 0))
     × ((x : ℕ) → t ≤ x → getD r x (pos 0) ≡ getD r₀ x (pos 0))
 
 abbrev μ-loop : tie.MeasureT-loop
-μ-loop n src at w r₀ t₀ r t = n - t
+μ-loop src at w r₀ t₀ r t = 16 - t
 
 loop-holds : tie.Need-loop-holds Inv-loop μ-loop
 loop-holds c = (omega arith, c .before .pre .0, (λ x h. absurd (not-suc-le-zero h)), (λ x h. refl))
@@ -44,7 +44,7 @@ shared-slice-read-step c = omega arith
 step-requires : tie.Need-step-requires Inv-loop μ-loop
 step-requires c κs =
     let l = c .before .before .before in
-    rw (back (c .before .step-arg .given), l .loop .inv .3 (l .loop .t) (omega arith)) (l .before .before .pre .1 .1 .1 (l .loop .t) (omega arith))
+    rw (back (c .before .step-arg .given), l .loop .inv .3 (l .loop .t) (omega arith)) (l .before .before .pre .1 .1 (l .loop .t) (omega arith))
 
 mul-r : tie.Need-mul-r Inv-loop μ-loop
 mul-r c = omega arith
@@ -74,8 +74,8 @@ returns c =
     let a = c .before .before .before .args in
     (c .before .loop .inv .1, λ t h. rw (← toZ-ofZ (c .before .before .before .fits .w)) (c .before .loop .inv .2 t (omega arith)))
 
-pub add-columns-spec : {M : Type 1} → statement M
-add-columns-spec =
+pub add16-spec : {M : Type 1} → statement M
+add16-spec =
     tie.close
     (tie.spec
     Inv-loop
