@@ -105,6 +105,12 @@ uint32_t mirror_multiply_u8x4_inplace(uint8_t *pixels, size_t len);
 uint32_t mirror_divide_u8x4(const uint8_t *src, size_t src_len, uint8_t *dst, size_t dst_len);
 uint32_t mirror_divide_u8x4_inplace(uint8_t *pixels, size_t len);
 
+/* The same of pixels of four 16-bit components; lengths are counts of components. */
+uint32_t mirror_multiply_u16x4(const uint16_t *src, size_t src_len, uint16_t *dst, size_t dst_len);
+uint32_t mirror_multiply_u16x4_inplace(uint16_t *pixels, size_t len);
+uint32_t mirror_divide_u16x4(const uint16_t *src, size_t src_len, uint16_t *dst, size_t dst_len);
+uint32_t mirror_divide_u16x4_inplace(uint16_t *pixels, size_t len);
+
 /* The sheet of a set of the 16-bit or the 32-bit store, into text; written is its bytes. 0, 1, 10, 11, 100. No. 10: as for a normaliser,
  * and a precision outside 4 to 21 or 4 to 45. */
 uint32_t mirror_sheet16(uint32_t filter, uint32_t lines, uint32_t window, uint32_t precision,

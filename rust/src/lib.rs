@@ -13,6 +13,7 @@ mod sets;
 mod sheets;
 
 pub use alpha::{divide_alpha, divide_alpha_inplace, multiply_alpha, multiply_alpha_inplace};
+pub use alpha::{divide_alpha16, divide_alpha16_inplace, multiply_alpha16, multiply_alpha16_inplace};
 pub use crops::{crop, fit, Centring, CropBox};
 pub use numbers::{abs, ceil, clip8, filter, floor, narrow, round, widen, Filter};
 pub use passes::{vertical_f32, vertical_u16, Frame};

@@ -53,6 +53,11 @@ extern "C" {
     pub fn mirror_divide_u8x4(src: *const u8, src_len: usize, dst: *mut u8, dst_len: usize) -> u32;
     pub fn mirror_divide_u8x4_inplace(pixels: *mut u8, len: usize) -> u32;
 
+    pub fn mirror_multiply_u16x4(src: *const u16, src_len: usize, dst: *mut u16, dst_len: usize) -> u32;
+    pub fn mirror_multiply_u16x4_inplace(pixels: *mut u16, len: usize) -> u32;
+    pub fn mirror_divide_u16x4(src: *const u16, src_len: usize, dst: *mut u16, dst_len: usize) -> u32;
+    pub fn mirror_divide_u16x4_inplace(pixels: *mut u16, len: usize) -> u32;
+
     pub fn mirror_sheet16(
         filter: u32, lines: u32, window: u32, precision: u32, weights: *const i16, weights_len: usize, starts: *const u32, starts_len: usize,
         sizes: *const u32, sizes_len: usize, text: *mut u8, text_len: usize, written: *mut u64,

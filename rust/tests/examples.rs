@@ -125,6 +125,22 @@ fn alpha_gives_rows_1_to_6() {
 }
 
 #[test]
+fn alpha_of_16_bits() {
+    let with = |f: fn(&[u16], &mut [u16]) -> Result<(), Refusal>, colour, alpha| {
+        let mut out = [9; 4];
+        f(&[colour, 0, colour, alpha], &mut out).map(|()| (out[0], out[3]))
+    };
+    assert_eq!((with(multiply_alpha16, 32768, 32768), with(multiply_alpha16, 65535, 65535)), (Ok((16384, 32768)), Ok((65535, 65535))));
+    assert_eq!((with(divide_alpha16, 1, 2), with(divide_alpha16, 13, 26)), (Ok((32768, 2)), Ok((32767, 26))));
+    assert_eq!((with(divide_alpha16, 32769, 1), with(divide_alpha16, 200, 0)), (Ok((65535, 1)), Ok((0, 0))));
+    let mut pixels = [13, 0, 65535, 26];
+    assert_eq!((divide_alpha16_inplace(&mut pixels), pixels), (Ok(()), [32767, 0, 65535, 26]));
+    assert_eq!((multiply_alpha16_inplace(&mut pixels), pixels), (Ok(()), [13, 0, 26, 26]));
+    assert_eq!(multiply_alpha16(&[0; 4], &mut [0; 8]), Err(Refusal::DoesNotFit));
+    assert_eq!((divide_alpha16_inplace(&mut pixels[..3]), divide_alpha16_inplace(&mut [])), (Err(Refusal::DoesNotFit), Ok(())));
+}
+
+#[test]
 fn the_sheet_is_document_01s() {
     const SHEET: &[u8] = b"kind=box\nin=4\nout=2\nwindow=3\nstore=32\nprecision=31\nw0=0,2:1073741824,1073741824\nw1=2,2:1073741824,1073741824\n";
     let half = 1 << 30;

@@ -95,6 +95,33 @@ static int applied(uint32_t (*two)(const uint8_t *, size_t, uint8_t *, size_t), 
     return dst.at[0];
 }
 
+/* The same, 16 bits. */
+static int applied16(uint32_t (*two)(const uint16_t *, size_t, uint16_t *, size_t), uint32_t (*in_place)(uint16_t *, size_t), uint16_t colour, uint16_t alpha)
+{
+    const uint16_t src[] = {colour, 0, colour, alpha};
+    LENT(uint16_t, dst, 4);
+    CHECK(two(src, 4, LIST(dst)) == MIRROR_DONE && dst.at[1] == 0 && dst.at[2] == dst.at[0] && dst.at[3] == alpha && KEPT_FROM(dst, 4));
+    LENT(uint16_t, own, 4);
+    memcpy(own.at, src, 8);
+    CHECK(in_place(LIST(own)) == MIRROR_DONE && memcmp(own.at, dst.at, 8) == 0 && KEPT_FROM(own, 4));
+    return dst.at[0];
+}
+
+static void check_alpha16(void)
+{
+#define MULTIPLIED16(colour, alpha) applied16(mirror_multiply_u16x4, mirror_multiply_u16x4_inplace, colour, alpha)
+#define DIVIDED16(colour, alpha) applied16(mirror_divide_u16x4, mirror_divide_u16x4_inplace, colour, alpha)
+    CHECK(MULTIPLIED16(32768, 32768) == 16384 && MULTIPLIED16(65535, 65535) == 65535 && MULTIPLIED16(65535, 0) == 0);
+    /* the halves go either way; the Rust's one wrong pair; an opaque pixel keeps its colours */
+    CHECK(DIVIDED16(1, 2) == 32768 && DIVIDED16(13, 26) == 32767 && DIVIDED16(32769, 1) == 65535 && DIVIDED16(200, 0) == 0 && DIVIDED16(12345, 65535) == 12345);
+    const uint16_t src[8] = {1, 2, 3, 4, 5, 6, 7, 8};
+    LENT(uint16_t, dst, 8);
+    CHECK(mirror_multiply_u16x4(src, 4, dst.at, 8) == MIRROR_DOES_NOT_FIT && mirror_divide_u16x4(src, 8, dst.at, 4) == MIRROR_DOES_NOT_FIT && UNCHANGED(dst));
+    CHECK(mirror_multiply_u16x4(src, 7, dst.at, 7) == MIRROR_DOES_NOT_FIT && mirror_divide_u16x4(src, 7, dst.at, 7) == MIRROR_DOES_NOT_FIT && UNCHANGED(dst));
+    CHECK(mirror_multiply_u16x4_inplace(dst.at, 6) == MIRROR_DOES_NOT_FIT && mirror_divide_u16x4_inplace(dst.at, 5) == MIRROR_DOES_NOT_FIT && UNCHANGED(dst));
+    CHECK(mirror_multiply_u16x4(src, 0, dst.at, 0) == MIRROR_DONE && mirror_divide_u16x4_inplace(dst.at, 0) == MIRROR_DONE && UNCHANGED(dst));
+}
+
 void check_alpha(void)
 {
 #define MULTIPLIED(colour, alpha) applied(mirror_multiply_u8x4, mirror_multiply_u8x4_inplace, colour, alpha)
@@ -108,4 +135,5 @@ void check_alpha(void)
     CHECK(mirror_multiply_u8x4(src, 7, dst.at, 7) == MIRROR_DOES_NOT_FIT && mirror_divide_u8x4(src, 7, dst.at, 7) == MIRROR_DOES_NOT_FIT && UNCHANGED(dst));
     CHECK(mirror_multiply_u8x4_inplace(dst.at, 6) == MIRROR_DOES_NOT_FIT && mirror_divide_u8x4_inplace(dst.at, 5) == MIRROR_DOES_NOT_FIT && UNCHANGED(dst));
     CHECK(mirror_multiply_u8x4(src, 0, dst.at, 0) == MIRROR_DONE && mirror_divide_u8x4_inplace(dst.at, 0) == MIRROR_DONE && UNCHANGED(dst));
+    check_alpha16();
 }

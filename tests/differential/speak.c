@@ -344,6 +344,21 @@ static int alpha(char **w, int words)
     return 1;
 }
 
+static int alpha16(char **w, int words)
+{
+    int divide = w[0][0] == 'd', in_place = words == 2;
+    struct list *src = read_list('w', w[1], !in_place), *out = in_place ? src : src ? lend('w', w[2]) : NULL;
+    uint32_t no;
+    OR_BAD(out);
+    if (in_place)
+        no = (divide ? mirror_divide_u16x4_inplace : mirror_multiply_u16x4_inplace)(at(src), src->count);
+    else
+        no = (divide ? mirror_divide_u16x4 : mirror_multiply_u16x4)(at(src), src->count, at(out), out->count);
+    printf("%" PRIu32, no);
+    show('w', out);
+    return 1;
+}
+
 static int sheet(char **w)
 {
     uint32_t kind, lines, window, precision, no;
@@ -394,6 +409,8 @@ static int answer(char **w, int words)
         return pass(w, 1);
     if ((words == 3 && one_of(w[0], "mul8 div8")) || (words == 2 && one_of(w[0], "mul8in div8in")))
         return alpha(w, words);
+    if ((words == 3 && one_of(w[0], "mul16 div16")) || (words == 2 && one_of(w[0], "mul16in div16in")))
+        return alpha16(w, words);
     if (words == 10 && strcmp(w[0], "sheet") == 0)
         return sheet(w);
     return 0;

@@ -98,6 +98,22 @@ def alpha_group(r):
                 "div8 1 2,3,4 4", "mul9 1,2,3,4 4", "")
 
 
+def alpha16_group(r):
+    for a in (0, 1, 2, 3, 26, 255, 256, 257, 32767, 32768, 32769, 65534, 65535):
+        colours = [0, 1, 2, 13, 255, 256, 32767, 32768, 32769, 65534, 65535] + [min(max(a // 2 + k, 0), 65535) for k in (-1, 0, 1)] + [r.randint(0, a) for _ in range(20)]
+        pixels = three_by_three(colours + [0] * 2, a)
+        yield "mul16 %s %d" % (joined(pixels), len(pixels))
+        yield "div16in %s" % joined(pixels)
+    for name in ("mul16", "div16"):
+        for n in range(6):
+            src = [r.randint(0, 65535) for _ in range(n)]
+            for lent_to in range(6):
+                yield "%s %s %d" % (name, joined(src), lent_to)
+            yield "%sin %s" % (name, joined(src))
+    for _ in range(60):
+        yield alpha16(r)
+
+
 def crop_group(r):
     for kind in KINDS:
         for x in (0.0, 0.5, 1.0, 1.5, 2.0):
@@ -348,7 +364,7 @@ def sheet_group(r):
     yield from ("sheet box 1 1 16 14 32768 0 1 99", "sheet box 1 1 64 14 1 0 1 99", "sheet lanczos3 1 1 16 14 1 0 1 99", "sheet box 1 1 16 14 1 0 1", "sheet box 1 1 16 14 -32769 0 1 9", "")
 
 
-GROUPS = {"numbers": numbers, "alpha": alpha_group, "crop": crop_group, "normalizer": normalizer, "build": build_group, "passes": passes, "sheet": sheet_group}
+GROUPS = {"numbers": numbers, "alpha": alpha_group, "alpha16": alpha16_group, "crop": crop_group, "normalizer": normalizer, "build": build_group, "passes": passes, "sheet": sheet_group}
 
 
 def answers(oracle, lines):

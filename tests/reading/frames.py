@@ -94,6 +94,15 @@ def divided(colour, alpha):
     return min(255, (colour * r + 128) // 256)
 
 
+def multiplied16(colour, alpha):
+    return (2 * colour * alpha + 65535) // 131070
+
+
+def divided16(colour, alpha):
+    r = (2 * 65535 * 2**33 + alpha) // (2 * alpha) if alpha else 0
+    return min(65535, (colour * r + 2**32) // 2**33)
+
+
 def pixels(one, source, out):
     if len(source) != len(out) or len(source) % 4:
         return 10

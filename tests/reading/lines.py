@@ -104,6 +104,8 @@ REQUESTS |= {
     "f32pass": ((u32,) * 5 + (listed(b64),) + LISTS + (listed(b32), lent(made=lambda v: numbers.narrow(numbers.pattern(float(v))))), passed(frames.f32_pass, "%08x")),
     "mul8": ((listed(u8), lent()), pixels(frames.multiplied)), "div8": ((listed(u8), lent()), pixels(frames.divided)),
     "mul8in": ((listed(u8),), pixels(frames.multiplied)), "div8in": ((listed(u8),), pixels(frames.divided)),
+    "mul16": ((listed(u16), lent()), pixels(frames.multiplied16)), "div16": ((listed(u16), lent()), pixels(frames.divided16)),
+    "mul16in": ((listed(u16),), pixels(frames.multiplied16)), "div16in": ((listed(u16),), pixels(frames.divided16)),
 }
 
 

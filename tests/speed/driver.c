@@ -1,6 +1,6 @@
 /* driver CASE SIDE RUNS: runs one function RUNS times on inputs that depend on the case alone, and says what it wrote.
  * SIDE is `rust` (the given Rust, given.rs) or `port` (the static library, mirror.h). A function that the library does not have
- * is answered by `missing`. Cases: multiply, multiply_in, divide, divide_in; u16_N or f32_N for windows of N lines, u16_N_C for frames of C columns; build, norm16,
+ * is answered by `missing`. Cases: multiply, multiply_in, divide, divide_in, the same with 16; u16_N or f32_N for windows of N lines, u16_N_C for frames of C columns; build, norm16,
  * norm32. */
 #include <inttypes.h>
 #include <stdio.h>
@@ -18,11 +18,16 @@
 #pragma weak mirror_multiply_u8x4_inplace
 #pragma weak mirror_divide_u8x4
 #pragma weak mirror_divide_u8x4_inplace
+#pragma weak mirror_multiply_u16x4
+#pragma weak mirror_multiply_u16x4_inplace
+#pragma weak mirror_divide_u16x4
+#pragma weak mirror_divide_u16x4_inplace
 
 struct job;
 extern void given_run(struct job *);
 extern size_t given_written(const struct job *, uint8_t *);
 extern struct job *given_alpha(uint32_t divide, uint32_t in_place, const uint8_t *, size_t);
+extern struct job *given_alpha16(uint32_t divide, uint32_t in_place, const uint16_t *, size_t);
 extern struct job *given_u16(uint32_t kind, uint32_t side, uint32_t out, uint32_t row, const uint16_t *);
 extern struct job *given_f32(uint32_t kind, uint32_t side, uint32_t out, uint32_t row, const float *);
 extern struct job *given_build(uint32_t kind, uint32_t side, uint32_t out, uint32_t runs);
@@ -32,7 +37,7 @@ extern uint32_t given_integers(uint32_t kind, uint32_t side, uint32_t out, int32
 
 enum { COLUMNS = 1920, PIXELS = 65536, SLOTS = 1 << 20, ROOM = 1 << 24 };
 
-static uint8_t written[ROOM];
+static _Alignas(16) uint8_t written[ROOM];
 static double slots[SLOTS];
 static double made_slots[SLOTS];
 static uint32_t starts[8192], sizes[8192], made_starts[8192], made_sizes[8192];
@@ -93,6 +98,32 @@ static void alpha(const char *name, int port, int runs)
             no = in_place ? mirror_multiply_u8x4_inplace(written, length) : mirror_multiply_u8x4(src, length, written, length);
     }
     end(length, PIXELS, no);
+}
+
+/* Colours within their alpha, as a multiplied frame has them; the given product wraps at one pair above it. Every eighth pixel is opaque. */
+static void alpha16(const char *name, int port, int runs)
+{
+    int divide = name[0] == 'd', in_place = strstr(name, "_in") != NULL;
+    size_t length = 4 * (size_t)PIXELS;
+    uint16_t *src = malloc(2 * length), *made = (uint16_t *)written;
+    for (size_t i = 0; i < length; i += 4) {
+        src[i + 3] = i % 32 == 0 ? 65535 : (uint16_t)next();
+        for (size_t k = i; k < i + 3; k++)
+            src[k] = (uint16_t)(next() % (src[i + 3] + 1u));
+    }
+    if (!port)
+        given(given_alpha16(divide, in_place, src, length), runs, PIXELS);
+    missing_if(divide ? (in_place ? !mirror_divide_u16x4_inplace : !mirror_divide_u16x4)
+                      : (in_place ? !mirror_multiply_u16x4_inplace : !mirror_multiply_u16x4));
+    uint32_t no = 0;
+    memcpy(made, src, in_place ? 2 * length : 0);
+    for (int i = 0; i < runs; i++) {
+        if (divide)
+            no = in_place ? mirror_divide_u16x4_inplace(made, length) : mirror_divide_u16x4(src, length, made, length);
+        else
+            no = in_place ? mirror_multiply_u16x4_inplace(made, length) : mirror_multiply_u16x4(src, length, made, length);
+    }
+    end(2 * length, PIXELS, no);
 }
 
 /* A whole side, adapting, by filter and sides: windows of so many lines. */
@@ -177,6 +208,8 @@ int main(int argc, char **argv)
         return 2;
     const char *name = argv[1];
     int port = strcmp(argv[2], "port") == 0, runs = atoi(argv[3]), taps, columns = COLUMNS;
+    if (strncmp(name, "multiply16", 10) == 0 || strncmp(name, "divide16", 8) == 0)
+        alpha16(name, port, runs);
     if (strncmp(name, "multiply", 8) == 0 || strncmp(name, "divide", 6) == 0)
         alpha(name, port, runs);
     if (sscanf(name, "u16_%d_%d", &taps, &columns) >= 1)

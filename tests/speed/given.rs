@@ -20,9 +20,10 @@ mod pixels;
 // OURS.
 mod door;
 
+use alpha::u16x4::native as native16;
 use alpha::u8x4::native;
 use door::{Door, Frame, FrameMut, Named, Weights};
-use pixels::{F32, U16, U8x4};
+use pixels::{F32, U16, U16x4, U8x4};
 
 type Normalizer16 = <Door as Named>::Normalizer16;
 type Normalizer32 = <Door as Named>::Normalizer32;
@@ -36,6 +37,8 @@ fn room(runs: u32) -> usize {
 pub enum Job {
     Alpha { divide: bool, src: Frame<U8x4>, dst: FrameMut<U8x4> },
     AlphaInPlace { divide: bool, view: FrameMut<U8x4> },
+    Alpha16 { divide: bool, src: Frame<U16x4>, dst: FrameMut<U16x4> },
+    Alpha16InPlace { divide: bool, view: FrameMut<U16x4> },
     U16 { src: Frame<U16>, dst: FrameMut<U16>, weights: Normalizer32 },
     F32 { src: Frame<F32>, dst: FrameMut<F32>, weights: Coefficients },
     Build { kind: FilterType, side: u32, out: u32, made: Vec<Coefficients> },
@@ -64,6 +67,10 @@ pub unsafe extern "C" fn given_run(job: *mut Job) {
         Job::Alpha { divide: true, src, dst } => native::divide_alpha(src, dst),
         Job::AlphaInPlace { divide: false, view } => native::multiply_alpha_inplace(view),
         Job::AlphaInPlace { divide: true, view } => native::divide_alpha_inplace(view),
+        Job::Alpha16 { divide: false, src, dst } => native16::multiply_alpha(src, dst),
+        Job::Alpha16 { divide: true, src, dst } => native16::divide_alpha(src, dst),
+        Job::Alpha16InPlace { divide: false, view } => native16::multiply_alpha_inplace(view),
+        Job::Alpha16InPlace { divide: true, view } => native16::divide_alpha_inplace(view),
         Job::U16 { src, dst, weights } => Door::PASS_U16_BY(src, dst, 0, weights),
         Job::F32 { src, dst, weights } => Door::PASS_F32_BY(src, dst, 0, weights),
         Job::Build { kind, side, out, made } => made.push(built(*kind, *side, *out)),
@@ -92,6 +99,20 @@ pub unsafe extern "C" fn given_alpha(divide: u32, in_place: u32, src: *const u8,
     }
     let src = Frame { width, height: 1, pixels };
     job(Job::Alpha { divide, src, dst: FrameMut { width, height: 1, pixels: empty } })
+}
+
+/// # Safety
+/// `src` has `len` components.
+#[no_mangle]
+pub unsafe extern "C" fn given_alpha16(divide: u32, in_place: u32, src: *const u16, len: usize) -> *mut Job {
+    let pixels: Vec<U16x4> = slice::from_raw_parts(src, len).chunks_exact(4).map(|p| U16x4::new([p[0], p[1], p[2], p[3]])).collect();
+    let (width, divide) = (pixels.len() as u32, divide == 1);
+    let empty = vec![U16x4::new([0; 4]); pixels.len()];
+    if in_place == 1 {
+        return job(Job::Alpha16InPlace { divide, view: FrameMut { width, height: 1, pixels } });
+    }
+    let src = Frame { width, height: 1, pixels };
+    job(Job::Alpha16 { divide, src, dst: FrameMut { width, height: 1, pixels: empty } })
 }
 
 /// # Safety
@@ -152,6 +173,7 @@ pub unsafe extern "C" fn given_written(job: *const Job, to: *mut u8) -> usize {
     }
     match &*job {
         Job::Alpha { dst: view, .. } | Job::AlphaInPlace { view, .. } => laid(view.pixels.iter().map(|p| p.0), to),
+        Job::Alpha16 { dst: view, .. } | Job::Alpha16InPlace { view, .. } => laid(view.pixels.iter().map(|p| p.0), to),
         Job::U16 { dst, .. } => laid(dst.pixels.iter().map(|p| p.0), to),
         Job::F32 { dst, .. } => laid(dst.pixels.iter().map(|p| p.0), to),
         Job::Build { made, .. } => {

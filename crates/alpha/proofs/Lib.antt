@@ -1,4 +1,5 @@
 pub mod Colours
 pub mod PixelLaws
+pub mod WordLaws
 pub mod Sweep
 pub mod Sure

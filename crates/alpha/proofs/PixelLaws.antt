@@ -1,7 +1,7 @@
--- A loop over the pixels of a list: one pixel more is written, colours by an operation on bytes, alpha kept. Over any such operation, so that
--- multiply and divide cite the same laws. Assumes nothing.
-use mathlib.Core.Path.{_≡_, refl, sym, ap, subst, _∙_}
-use mathlib.Core.Bool.{Bool, true, false, cond, not}
+-- A loop over the pixels of a list: one pixel more is written, colours by an operation, alpha kept. Over any operation and width, so that multiply and divide, of 8 and
+-- of 16 bits, cite the same laws. Assumes nothing.
+use mathlib.Core.Path.{_≡_, sym, ap, subst, _∙_}
+use mathlib.Core.Bool.{false, not}
 use mathlib.Core.List.{List}
 use Prim.Native.Nat.{ℕ, _+_, _*_, _/_, _%_, _<_, _≤_}
 use native.Mathlib.Omega.{arith}
@@ -11,78 +11,30 @@ use borrow.Author.Tests.{ne-eqb, eqb-true, not-false}
 use Rattle.lists.specs.Tab.{tab, front}
 use Rattle.lists.proofs.BoolLaws.{or-left, or-right}
 use Rattle.lists.proofs.TabLaws.{Written, written-more, front-past, front-whole}
-use Rattle.alpha.specs.Alpha.{multiplied, reciprocal, quotient, divided}
-use Rattle.alpha.specs.Lists.{badLists, componentAt}
-use Rattle.alpha.specs.Words.{word, wordAt, onColours, stored}
-
--- a word's bytes
-pub record Bytes (w b0 b1 b2 b3 : ℕ) : Type 0 where
-  pub first : w % 256 ≡ b0
-  pub second : w / 256 % 256 ≡ b1
-  pub third : w / 65536 % 256 ≡ b2
-  pub last : w / 16777216 ≡ b3
-
-pub bytes : (w b0 b1 b2 b3 : ℕ) → w ≡ word b0 b1 b2 b3 → b0 < 256 → b1 < 256 → b2 < 256 → b3 < 256 → Bytes w b0 b1 b2 b3
-bytes w b0 b1 b2 b3 e h0 h1 h2 h3 = omega arith
+use Rattle.alpha.specs.Lists.{badLists, componentAt, stored}
 
 module _ (op : ℕ → ℕ → ℕ) (src : List ℕ) (q : ℕ) where
-  colour : (k : ℕ) → k / 4 ≡ q → k % 4 < 3 → componentAt op src k ≡ op (getD src k 0) (getD src (q * 4 + 3) 0)
+  pub colour : (k : ℕ) → k / 4 ≡ q → k % 4 < 3 → componentAt op src k ≡ op (getD src k 0) (getD src (q * 4 + 3) 0)
   colour k d h = rw (d, ne-eqb (k % 4) 3 (λ e. omega arith))
 
-  kept : componentAt op src (q * 4 + 3) ≡ getD src (q * 4 + 3) 0
+  pub kept : componentAt op src (q * 4 + 3) ≡ getD src (q * 4 + 3) 0
   kept = let m : (q * 4 + 3) % 4 ≡ 3 = omega arith in rw m
-
-pick-byte : (t : Bool) {x y : ℕ} → x < 256 → y < 256 → cond t x y < 256
-pick-byte true h k = h
-pick-byte false h k = k
 
 written-next : {f : ℕ → ℕ} {old now : List ℕ} {v : ℕ} (k m : ℕ) → k + 1 ≡ m → Written k f old now → k < length old → v ≡ f k → Written m f old (set now k v)
 written-next {f} {old} {now} {v} k m e w h is = subst (λ (n : ℕ). Written n f old (set now k v)) e (written-more w h is)
 
--- a list of bytes: its pixel at q as a word
-module _ (src : List ℕ) (small : (k : ℕ) → getD src k 0 < 256) (q : ℕ) where
-  pixel-bytes : Bytes (wordAt src (q * 4)) (getD src (q * 4) 0) (getD src (q * 4 + 1) 0) (getD src (q * 4 + 2) 0) (getD src (q * 4 + 3) 0)
-  pixel-bytes =
-      bytes (wordAt src (q * 4)) (getD src (q * 4) 0) (getD src (q * 4 + 1) 0) (getD src (q * 4 + 2) 0) (getD src (q * 4 + 3) 0) refl
-      (small (q * 4)) (small (q * 4 + 1)) (small (q * 4 + 2)) (small (q * 4 + 3))
-
-  -- the word that each operation's function gives, said with the alpha of the list
-  pub multiplied-word : (x w : ℕ) → x ≡ wordAt src (q * 4) → w ≡ onColours (λ c. multiplied c (x / 16777216)) x → w ≡ onColours (λ c. multiplied c (getD src (q * 4 + 3) 0)) (wordAt src (q * 4))
-  multiplied-word x w e-x e-w =
-      e-w ∙ ap (λ (y : ℕ). onColours (λ c. multiplied c (y / 16777216)) y) e-x
-      ∙ ap (λ (a : ℕ). onColours (λ c. multiplied c a) (wordAt src (q * 4))) (pixel-bytes .last)
-
-  pub divided-word : (x w r : ℕ) → x ≡ wordAt src (q * 4) → r ≡ reciprocal (getD src (q * 4 + 3) 0) → w ≡ onColours (λ c. quotient c r) x → w ≡ onColours (λ c. divided c (getD src (q * 4 + 3) 0)) (wordAt src (q * 4))
-  divided-word x w r e-x e-r e-w =
-      e-w ∙ ap (λ (y : ℕ). onColours (λ c. quotient c r) y) e-x ∙ ap (λ (y : ℕ). onColours (λ c. quotient c y) (wordAt src (q * 4))) e-r
-
-  module _ (op : ℕ → ℕ → ℕ) (byte : (c a : ℕ) → c < 256 → a < 256 → op c a < 256) where
-    component-byte : (k : ℕ) → componentAt op src k < 256
-    component-byte k = pick-byte (eqb (k % 4) 3) (small k) (byte (getD src k 0) (getD src (k / 4 * 4 + 3) 0) (small k) (small (k / 4 * 4 + 3)))
-
-    -- the four bytes of the word that is stored
-    stored-bytes : (w : ℕ) → w ≡ onColours (λ c. op c (getD src (q * 4 + 3) 0)) (wordAt src (q * 4)) → Bytes w (componentAt op src (q * 4)) (componentAt op src (q * 4 + 1)) (componentAt op src (q * 4 + 2)) (componentAt op src (q * 4 + 3))
-    stored-bytes w e =
-        let b = pixel-bytes in
-        let is : w ≡ word (componentAt op src (q * 4)) (componentAt op src (q * 4 + 1)) (componentAt op src (q * 4 + 2)) (componentAt op src (q * 4 + 3)) =
-        e ∙ rw (b .first, b .second, b .third, b .last, colour op src q (q * 4) (omega arith) (omega arith), colour op src q (q * 4 + 1) (omega arith) (omega arith), colour op src q (q * 4 + 2) (omega arith) (omega arith), kept op src q) in
-        bytes w _ _ _ _ is (component-byte (q * 4)) (component-byte (q * 4 + 1)) (component-byte (q * 4 + 2)) (component-byte (q * 4 + 3))
-
-    -- one pixel more
-    pub pixel-more : {old now : List ℕ} (w : ℕ) → w ≡ onColours (λ c. op c (getD src (q * 4 + 3) 0)) (wordAt src (q * 4)) → Written (q * 4) (componentAt op src) old now → q * 4 + 4 ≤ length old → Written ((q + 1) * 4) (componentAt op src) old (stored now (q * 4) w)
-    pixel-more {old} {now} w e wr h =
-        let b = stored-bytes w e in
-        let w1 = written-next (q * 4) (q * 4 + 1) (omega arith) wr (omega arith) (b .first) in
-        let w2 = written-next (q * 4 + 1) (q * 4 + 2) (omega arith) w1 (omega arith) (b .second) in
-        let w3 = written-next (q * 4 + 2) (q * 4 + 3) (omega arith) w2 (omega arith) (b .third) in
-        written-next (q * 4 + 3) ((q + 1) * 4) (omega arith) w3 (omega arith) (b .last)
+-- one pixel more: its four components are those of the rule
+pub pixel-more : {f : ℕ → ℕ} {old now : List ℕ} (q c0 c1 c2 alpha : ℕ) → c0 ≡ f (q * 4) → c1 ≡ f (q * 4 + 1) → c2 ≡ f (q * 4 + 2) → alpha ≡ f (q * 4 + 3)
+    → Written (q * 4) f old now → q * 4 + 4 ≤ length old → Written ((q + 1) * 4) f old (stored now (q * 4) c0 c1 c2 alpha)
+pixel-more q c0 c1 c2 alpha e0 e1 e2 e3 wr h =
+    let w1 = written-next (q * 4) (q * 4 + 1) (omega arith) wr (omega arith) e0 in
+    let w2 = written-next (q * 4 + 1) (q * 4 + 2) (omega arith) w1 (omega arith) e1 in
+    let w3 = written-next (q * 4 + 2) (q * 4 + 3) (omega arith) w2 (omega arith) e2 in
+    written-next (q * 4 + 3) ((q + 1) * 4) (omega arith) w3 (omega arith) e3
 
 -- in place, the pixel at q is still what it was: only pixels before it are written
 pub still : {f : ℕ → ℕ} {old now : List ℕ} (q k : ℕ) → Written (q * 4) f old now → q * 4 ≤ k → getD now k 0 ≡ getD old k 0
 still {f} {old} {now} q k w h = ap (λ (l : List ℕ). getD l k 0) (w .is) ∙ front-past (q * 4) f old k 0 h
-
-pub still-word : {f : ℕ → ℕ} {old now : List ℕ} (q : ℕ) → Written (q * 4) f old now → wordAt now (q * 4) ≡ wordAt old (q * 4)
-still-word q w = rw (still q (q * 4) w (omega arith), still q (q * 4 + 1) w (omega arith), still q (q * 4 + 2) w (omega arith), still q (q * 4 + 3) w (omega arith))
 
 -- every pixel
 pub pixels-all : {f : ℕ → ℕ} {old now : List ℕ} (q n : ℕ) → Written (q * 4) f old now → q ≡ length old / 4 → length old % 4 ≡ 0 → n ≡ length old → now ≡ tab 0 n f

@@ -6,6 +6,8 @@ use Rattle.alpha.proofs.common.mul_div_255.Kinds as mul-div-255
 use Rattle.alpha.proofs.common.mul_div_255.Reads as mul-div-255-reads
 use Rattle.alpha.proofs.common.div_and_clip.Kinds as div-and-clip
 use Rattle.alpha.proofs.common.div_and_clip.Reads as div-and-clip-reads
+use Rattle.alpha.proofs.u8x4.bad_lists.Kinds as bad-lists
+use Rattle.alpha.proofs.u8x4.bad_lists.Reads as bad-lists-reads
 use Rattle.alpha.proofs.u8x4.multiply_alpha.Kinds as multiply-alpha
 use Rattle.alpha.proofs.u8x4.multiply_alpha.Reads as multiply-alpha-reads
 use Rattle.alpha.proofs.u8x4.multiply_alpha_inplace.Kinds as multiply-alpha-inplace
@@ -22,6 +24,9 @@ mul-div-255-decides κs a x y s t p q = p ∙ sym q
 
 pub div-and-clip-decides : DecidesResult div-and-clip.ps div-and-clip.r div-and-clip-reads.Post
 div-and-clip-decides κs a x y s t p q = p ∙ sym q
+
+pub bad-lists-decides : DecidesResult bad-lists.ps bad-lists.r bad-lists-reads.Post
+bad-lists-decides κs a x y s t p q = p ∙ sym q
 
 -- (the second parameter is the list written)
 pub multiply-alpha-decides : Decides multiply-alpha.ps multiply-alpha.r multiply-alpha-reads.Post (λ κs s t. now (s .1 .0) ≡ now (t .1 .0))

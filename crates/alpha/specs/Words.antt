@@ -1,8 +1,9 @@
--- A pixel as one number, its first component lowest. Cited by the contracts of the functions that load, store and work on a pixel.
+-- A pixel of bytes as one number, its first component lowest. Cited by the contracts of the functions that load, store and work on a pixel.
 -- Definitions only. Assumes nothing.
 use mathlib.Core.List.{List}
 use Prim.Native.Nat.{ℕ, _+_, _*_, _/_, _%_}
-use lib.ListN.{getD, set}
+use lib.ListN.{getD}
+use Rattle.alpha.specs.Lists.{stored}
 
 abbrev pub word : ℕ → ℕ → ℕ → ℕ → ℕ
 word c0 c1 c2 alpha = c0 + c1 * 256 + c2 * 65536 + alpha * 16777216
@@ -16,5 +17,5 @@ abbrev pub onColours : (ℕ → ℕ) → ℕ → ℕ
 onColours f x = word (f (x % 256)) (f (x / 256 % 256)) (f (x / 65536 % 256)) (x / 16777216)
 
 -- the list with the pixel x written from i on
-abbrev pub stored : List ℕ → ℕ → ℕ → List ℕ
-stored s i x = set (set (set (set s i (x % 256)) (i + 1) (x / 256 % 256)) (i + 2) (x / 65536 % 256)) (i + 3) (x / 16777216)
+abbrev pub storedWord : List ℕ → ℕ → ℕ → List ℕ
+storedWord s i x = stored s i (x % 256) (x / 256 % 256) (x / 65536 % 256) (x / 16777216)

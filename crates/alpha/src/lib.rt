@@ -11,6 +11,7 @@ mod u8x4;
 pub use common::div_and_clip;
 pub use common::mul_div_255;
 use refusal::Refusal;
+pub use u8x4::bad_lists;
 pub use u8x4::divide_alpha;
 pub use u8x4::divide_alpha_inplace;
 pub use u8x4::multiply_alpha;

@@ -6,7 +6,7 @@ ghost use mathlib.Core.Path.{_≡_};
 ghost use Prim.Native.Nat.{_+_, _/_, _<_, _≤_};
 ghost use lib.ListN.{length};
 ghost use Rattle.alpha.specs.Alpha.{multiplied, quotient};
-ghost use Rattle.alpha.specs.Words.{wordAt, onColours, stored};
+ghost use Rattle.alpha.specs.Words.{wordAt, onColours, storedWord};
 
 fn byte(x: u8) -> u32
     ensures answer { λ r. ⌜ r ≡ x ⌝ }
@@ -26,7 +26,7 @@ pub(crate) fn load4(s: &[u8], i: usize) -> u32
 // The pixel x written with its first component at i.
 pub(crate) fn store4(s: &mut [u8], i: usize, x: u32)
     requires { ⌜ i + 4 ≤ length (now s) ⌝ }
-    ensures written { λ _. ⌜ now (s .exit) ≡ stored (now (s .entry)) i x ⌝ }
+    ensures written { λ _. ⌜ now (s .exit) ≡ storedWord (now (s .entry)) i x ⌝ }
 {
     s[i] = (x % 256) as u8;
     s[i + 1] = (x / 256 % 256) as u8;

@@ -9,8 +9,8 @@ use refusal::Refusal;
 ghost use mathlib.Core.Path.{_≡_};
 ghost use Rattle.alpha.specs.Lists.{badLists, appliedTo, multipliedList, dividedList};
 
-// Whether two lists are not equally long, or no multiple of four components long.
-fn bad_lists(src: usize, dst: usize) -> bool
+// Whether two lists are not equally long, or no multiple of four components long: for lists of any width.
+pub fn bad_lists(src: usize, dst: usize) -> bool
     ensures answer { λ r. ⌜ r ≡ badLists src dst ⌝ }
 {
     (src != dst) | (src % 4 != 0)

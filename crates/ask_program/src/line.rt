@@ -70,7 +70,7 @@ fn first_groups(
     ask_weights::answer(line, e, out, slots, starts, sizes)
 }
 
-// The groups of frames and sheets.
+// The groups of 16-bit pixels, frames and sheets.
 fn last_groups(
     line: &[u8],
     a: Said,
@@ -86,9 +86,10 @@ fn last_groups(
     wide: &mut [i32],
     slots: &mut [f64],
 ) -> Said {
-    let b = ask_passes::answer_u16(line, a, out, wide, starts, sizes, samples, columns);
-    let c = ask_passes::answer_f32(line, b, out, slots, starts, sizes, floats, sums);
-    ask_sheet::answer(line, c, out, narrow, wide, starts, sizes, room)
+    let b = ask_alpha_u16::answer(line, a, out, samples, columns);
+    let c = ask_passes::answer_u16(line, b, out, wide, starts, sizes, samples, columns);
+    let d = ask_passes::answer_f32(line, c, out, slots, starts, sizes, floats, sums);
+    ask_sheet::answer(line, d, out, narrow, wide, starts, sizes, room)
 }
 
 // The answer to the line at s.at .. s.to, if there is one; the output's place behind it.

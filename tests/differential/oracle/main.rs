@@ -1,6 +1,6 @@
 //! Ours. The oracle: the given Rust behind the lines of the protocol (tests/differential/README.md).
 //!
-//! THEIRS, copied byte for byte by `build`: alpha/common.rs, alpha/u8x4/native.rs, compat/mod.rs, convolution/mod.rs,
+//! THEIRS, copied byte for byte by `build`: alpha/common.rs, alpha/u8x4/native.rs, alpha/u16x4/native.rs, compat/mod.rs, convolution/mod.rs,
 //! convolution/filters.rs, convolution/optimisations.rs, convolution/vertical_u16/native.rs,
 //! convolution/vertical_f32/native.rs, crop_box.rs, pixels.rs, utils.rs. OURS: every other file of the build folder.
 #![allow(dead_code, unused_imports, unused_macros)]

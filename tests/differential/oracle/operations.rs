@@ -26,6 +26,10 @@ pub fn answer(text: &str, bare: bool) -> Option<String> {
         ("div8", 2) => alpha(true, fields, bare),
         ("mul8in", 1) => alpha_in_place(false, fields, bare),
         ("div8in", 1) => alpha_in_place(true, fields, bare),
+        ("mul16", 2) => alpha16(false, fields, bare),
+        ("div16", 2) => alpha16(true, fields, bare),
+        ("mul16in", 1) => alpha16_in_place(false, fields, bare),
+        ("div16in", 1) => alpha16_in_place(true, fields, bare),
         ("sheet", 9) => sheet(fields, bare),
         _ => None,
     }
@@ -271,6 +275,43 @@ fn alpha_in_place(divide: bool, fields: &[&str], bare: bool) -> Option<String> {
     }
     theirs::alpha_in_place(divide, &mut list);
     Some(format!("0 {}", decimals(&list)))
+}
+
+fn alpha16(divide: bool, fields: &[&str], bare: bool) -> Option<String> {
+    let src = u16s(fields[0])?;
+    let mut out: Vec<u16> = lent(length(fields[1])?);
+    if !bare && (src.len() != out.len() || src.len() % 4 != 0) {
+        return Some(format!("10 {}", decimals(&out)));
+    }
+    theirs::alpha16(divide, &src, &mut out);
+    if divide && !bare {
+        unwrapped(&src, &mut out);
+    }
+    Some(format!("0 {}", decimals(&out)))
+}
+
+fn alpha16_in_place(divide: bool, fields: &[&str], bare: bool) -> Option<String> {
+    let src = u16s(fields[0])?;
+    let mut list = src.clone();
+    if !bare && list.len() % 4 != 0 {
+        return Some(format!("10 {}", decimals(&list)));
+    }
+    theirs::alpha16_in_place(divide, &mut list);
+    if divide && !bare {
+        unwrapped(&src, &mut list);
+    }
+    Some(format!("0 {}", decimals(&list)))
+}
+
+/// Document 02's answer at the one pair where the given product wraps: colour 32769, alpha 1.
+fn unwrapped(src: &[u16], out: &mut [u16]) {
+    for (from, to) in src.chunks_exact(4).zip(out.chunks_exact_mut(4)) {
+        for k in 0..3 {
+            if from[3] == 1 && from[k] == 32769 {
+                to[k] = 65535;
+            }
+        }
+    }
 }
 
 fn sheet(fields: &[&str], bare: bool) -> Option<String> {

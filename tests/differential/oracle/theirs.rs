@@ -1,10 +1,11 @@
 //! Ours. Calls of the given Rust, one function each, with plain lists on both sides. No refusals here.
 
+use crate::alpha::u16x4::native as native16;
 use crate::alpha::u8x4::native;
 use crate::convolution::{get_filter_func, precompute_coefficients, FilterType};
 use crate::crop_box::{CropBox, CroppedSrcImageView};
 use crate::door::{CropBoxError, Frame, FrameMut, Weights};
-use crate::pixels::{InnerPixel, F32, U16, U8, U8x4};
+use crate::pixels::{InnerPixel, F32, U16, U16x4, U8, U8x4};
 
 pub fn kind(word: &str) -> Option<FilterType> {
     match word {
@@ -111,4 +112,40 @@ pub fn alpha_in_place(divide: bool, out: &mut [u8]) {
         native::multiply_alpha_inplace(&mut view);
     }
     bytes(&view.pixels, out);
+}
+
+fn pixels16(list: &[u16]) -> Vec<U16x4> {
+    list.chunks_exact(4).map(|p| U16x4::new([p[0], p[1], p[2], p[3]])).collect()
+}
+
+fn words(pixels: &[U16x4], out: &mut [u16]) {
+    for (to, from) in out.chunks_exact_mut(4).zip(pixels) {
+        to.copy_from_slice(&from.0);
+    }
+}
+
+/// The given multiply or divide of one row into another, 16 bits.
+pub fn alpha16(divide: bool, src: &[u16], out: &mut [u16]) {
+    let from = pixels16(src);
+    let to = pixels16(out);
+    let src = Frame { width: from.len() as u32, height: 1, pixels: from };
+    let mut dst = FrameMut { width: to.len() as u32, height: 1, pixels: to };
+    if divide {
+        native16::divide_alpha(&src, &mut dst);
+    } else {
+        native16::multiply_alpha(&src, &mut dst);
+    }
+    words(&dst.pixels, out);
+}
+
+/// The given multiply or divide in place, 16 bits.
+pub fn alpha16_in_place(divide: bool, out: &mut [u16]) {
+    let row = pixels16(out);
+    let mut view = FrameMut { width: row.len() as u32, height: 1, pixels: row };
+    if divide {
+        native16::divide_alpha_inplace(&mut view);
+    } else {
+        native16::multiply_alpha_inplace(&mut view);
+    }
+    words(&view.pixels, out);
 }

@@ -7,7 +7,8 @@ use Rattle.lists.proofs.TabLaws.{Written, written-none}
 use Rattle.alpha.specs.Lists.{componentAt}
 use Rattle.alpha.specs.Alpha.{divided}
 use Rattle.alpha.proofs.Colours.{divided-byte}
-use Rattle.alpha.proofs.PixelLaws.{divided-word, pixel-more, pixels-all}
+use Rattle.alpha.proofs.PixelLaws.{pixels-all}
+use Rattle.alpha.proofs.WordLaws.{divided-word, word-more}
 use Rattle.alpha.proofs.divide.divide_into.Statement.{statement}
 use Rattle.alpha.proofs.divide.divide_into.Tie as tie
 
@@ -64,7 +65,7 @@ loop-again c =
     let load = c .before .before .before .before .load4 in
     let e = divided-word (a .src .now) small q (load .result) (word .result) (recip .result) (load .ensures) (recip .ensures .0) (word .ensures) in (
       omega arith,
-      rw (c .before .before .store4 .ensures) (pixel-more (a .src .now) small q divided divided-byte (word .result) e (l .loop .inv .1) (omega arith)),
+      rw (c .before .before .store4 .ensures) (word-more (a .src .now) small q divided divided-byte (word .result) e (l .loop .inv .1) (omega arith)),
     )
 
 same-length : tie.Need-same-length Inv-loop μ-loop

@@ -8,7 +8,8 @@ use Rattle.lists.proofs.TabLaws.{Written, written-none}
 use Rattle.alpha.specs.Lists.{componentAt}
 use Rattle.alpha.specs.Alpha.{divided, reciprocal}
 use Rattle.alpha.proofs.Colours.{divided-byte}
-use Rattle.alpha.proofs.PixelLaws.{divided-word, pixel-more, pixels-all, still, still-word}
+use Rattle.alpha.proofs.PixelLaws.{pixels-all, still}
+use Rattle.alpha.proofs.WordLaws.{divided-word, word-more, still-word}
 use Rattle.alpha.proofs.divide.divide_within.Statement.{statement}
 use Rattle.alpha.proofs.divide.divide_within.Tie as tie
 
@@ -67,7 +68,7 @@ loop-again c =
     recip .ensures .0 ∙ ap reciprocal (still q (q * 4 + 3) (l .loop .inv .1) (omega arith)) in
     let e = divided-word (a .pixels .now) small q (load .result) (word .result) (recip .result) (load .ensures ∙ still-word q (l .loop .inv .1)) is (word .ensures) in (
       omega arith,
-      rw (c .before .before .store4 .ensures) (pixel-more (a .pixels .now) small q divided divided-byte (word .result) e (l .loop .inv .1) (omega arith)),
+      rw (c .before .before .store4 .ensures) (word-more (a .pixels .now) small q divided divided-byte (word .result) e (l .loop .inv .1) (omega arith)),
     )
 
 same-length : tie.Need-same-length Inv-loop μ-loop

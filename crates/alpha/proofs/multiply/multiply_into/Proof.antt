@@ -1,5 +1,5 @@
 -- `multiply::multiply_into` meets its contract: before turn q the first q pixels are written by the rule and the rest is as it was; a turn stores one
--- pixel more (`pixel-more`). Assumes nothing.
+-- pixel more (`word-more`). Assumes nothing.
 use Prim.Native.Nat.{ℕ, _*_, _-_, _<_, _≤_}
 use native.Mathlib.Omega.{arith}
 use lib.ListN.{length, getD}
@@ -8,7 +8,8 @@ use Rattle.lists.proofs.TabLaws.{Written, written-none}
 use Rattle.alpha.specs.Alpha.{multiplied}
 use Rattle.alpha.specs.Lists.{componentAt}
 use Rattle.alpha.proofs.Colours.{multiplied-byte}
-use Rattle.alpha.proofs.PixelLaws.{multiplied-word, pixel-more, pixels-all}
+use Rattle.alpha.proofs.PixelLaws.{pixels-all}
+use Rattle.alpha.proofs.WordLaws.{multiplied-word, word-more}
 use Rattle.alpha.proofs.multiply.multiply_into.Statement.{statement}
 use Rattle.alpha.proofs.multiply.multiply_into.Tie as tie
 
@@ -51,7 +52,7 @@ loop-again c =
     let word = c .before .before .before .multiplied-pixel in
     let e = multiplied-word (a .src .now) small q (c .before .before .before .before .load4 .result) (word .result) (c .before .before .before .before .load4 .ensures) (word .ensures) in (
       omega arith,
-      rw (c .before .before .store4 .ensures) (pixel-more (a .src .now) small q multiplied multiplied-byte (word .result) e (l .loop .inv .1) (omega arith)),
+      rw (c .before .before .store4 .ensures) (word-more (a .src .now) small q multiplied multiplied-byte (word .result) e (l .loop .inv .1) (omega arith)),
     )
 
 same-length : tie.Need-same-length Inv-loop μ-loop

@@ -8,7 +8,8 @@ use Rattle.lists.proofs.TabLaws.{Written, written-none}
 use Rattle.alpha.specs.Lists.{componentAt}
 use Rattle.alpha.specs.Alpha.{multiplied}
 use Rattle.alpha.proofs.Colours.{multiplied-byte}
-use Rattle.alpha.proofs.PixelLaws.{multiplied-word, pixel-more, pixels-all, still-word}
+use Rattle.alpha.proofs.PixelLaws.{pixels-all}
+use Rattle.alpha.proofs.WordLaws.{multiplied-word, word-more, still-word}
 use Rattle.alpha.proofs.multiply.multiply_within.Statement.{statement}
 use Rattle.alpha.proofs.multiply.multiply_within.Tie as tie
 
@@ -52,7 +53,7 @@ loop-again c =
     let load = c .before .before .before .before .load4 in
     let e = multiplied-word (a .pixels .now) small q (load .result) (word .result) (load .ensures ∙ still-word q (l .loop .inv .1)) (word .ensures) in (
       omega arith,
-      rw (c .before .before .store4 .ensures) (pixel-more (a .pixels .now) small q multiplied multiplied-byte (word .result) e (l .loop .inv .1) (omega arith)),
+      rw (c .before .before .store4 .ensures) (word-more (a .pixels .now) small q multiplied multiplied-byte (word .result) e (l .loop .inv .1) (omega arith)),
     )
 
 same-length : tie.Need-same-length Inv-loop μ-loop

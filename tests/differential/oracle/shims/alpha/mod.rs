@@ -3,4 +3,5 @@
 
 #[macro_use]
 pub(crate) mod common;
+pub(crate) mod u16x4;
 pub(crate) mod u8x4;

@@ -1,0 +1,59 @@
+// Lists of pixels of four 16-bit components, as `alpha` has them of 8 bits.
+use crate::divide::divide_into;
+use crate::divide::divide_within;
+use crate::multiply::multiply_into;
+use crate::multiply::multiply_within;
+use alpha::Applied;
+use alpha::bad_lists;
+use refusal::Refusal;
+ghost use mathlib.Core.Path.{_≡_};
+ghost use Rattle.alpha.specs.Lists.{appliedTo};
+ghost use Rattle.alpha_u16.specs.Lists.{multipliedList, dividedList};
+
+// Each pixel of src, its colours multiplied by its alpha, into dst.
+pub fn multiply_alpha(src: &[u16], dst: &mut [u16]) -> Applied
+    ensures answer { λ r. ⌜ r ≡ appliedTo (now (src .entry)) (now (dst .entry)) ⌝ }
+    ensures written { λ _. ⌜ now (dst .exit) ≡ multipliedList (now (src .entry)) (now (dst .entry)) ⌝ }
+{
+    if bad_lists(src.len(), dst.len()) {
+        return Applied::Refused(Refusal::DoesNotFit);
+    }
+    multiply_into(src, dst);
+    Applied::Done
+}
+
+// Each pixel's colours multiplied by its alpha, in place.
+pub fn multiply_alpha_inplace(pixels: &mut [u16]) -> Applied
+    ensures answer { λ r. ⌜ r ≡ appliedTo (now (pixels .entry)) (now (pixels .entry)) ⌝ }
+    ensures written { λ _. ⌜ now (pixels .exit) ≡ multipliedList (now (pixels .entry)) (now (pixels .entry)) ⌝ }
+{
+    if bad_lists(pixels.len(), pixels.len()) {
+        return Applied::Refused(Refusal::DoesNotFit);
+    }
+    multiply_within(pixels);
+    Applied::Done
+}
+
+// Each pixel of src, its colours divided by its alpha, into dst.
+pub fn divide_alpha(src: &[u16], dst: &mut [u16]) -> Applied
+    ensures answer { λ r. ⌜ r ≡ appliedTo (now (src .entry)) (now (dst .entry)) ⌝ }
+    ensures written { λ _. ⌜ now (dst .exit) ≡ dividedList (now (src .entry)) (now (dst .entry)) ⌝ }
+{
+    if bad_lists(src.len(), dst.len()) {
+        return Applied::Refused(Refusal::DoesNotFit);
+    }
+    divide_into(src, dst);
+    Applied::Done
+}
+
+// Each pixel's colours divided by its alpha, in place.
+pub fn divide_alpha_inplace(pixels: &mut [u16]) -> Applied
+    ensures answer { λ r. ⌜ r ≡ appliedTo (now (pixels .entry)) (now (pixels .entry)) ⌝ }
+    ensures written { λ _. ⌜ now (pixels .exit) ≡ dividedList (now (pixels .entry)) (now (pixels .entry)) ⌝ }
+{
+    if bad_lists(pixels.len(), pixels.len()) {
+        return Applied::Refused(Refusal::DoesNotFit);
+    }
+    divide_within(pixels);
+    Applied::Done
+}

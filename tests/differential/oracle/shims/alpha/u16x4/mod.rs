@@ -1,0 +1,3 @@
+//! Ours. The way into the given file of this folder.
+
+pub(crate) mod native;
