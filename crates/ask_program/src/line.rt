@@ -50,96 +50,155 @@ fn ended(whole: bool, s: Said, out: &mut [u8]) -> usize {
     s.n
 }
 
-// The groups of numbers, pixels, crops and weights.
-fn first_groups(
-    line: &[u8],
-    a: Said,
-    out: &mut [u8],
-    bytes: &mut [u8],
-    room: &mut [u8],
-    starts: &mut [u32],
-    sizes: &mut [u32],
-    narrow: &mut [i16],
-    wide: &mut [i32],
-    slots: &mut [f64],
-) -> Said {
+// The groups that need no lists.
+fn small_groups(line: &[u8], a: Said, out: &mut [u8]) -> Said {
     let b = ask_numbers::answer(line, a, out);
-    let c = ask_alpha::answer(line, b, out, bytes, room);
-    let d = ask_crop::answer(line, c, out);
-    let e = ask_normalizer::answer(line, d, out, slots, starts, sizes, narrow, wide);
-    ask_weights::answer(line, e, out, slots, starts, sizes)
+    ask_crop::answer(line, b, out)
 }
 
-// The groups of 16-bit pixels, frames and sheets.
-fn last_groups(
-    line: &[u8],
-    a: Said,
-    out: &mut [u8],
-    room: &mut [u8],
-    samples: &mut [u16],
-    columns: &mut [u16],
-    floats: &mut [f32],
-    sums: &mut [f32],
-    starts: &mut [u32],
-    sizes: &mut [u32],
-    narrow: &mut [i16],
-    wide: &mut [i32],
-    slots: &mut [f64],
-) -> Said {
-    let b = ask_alpha_u16::answer(line, a, out, samples, columns);
-    let c = ask_passes::answer_u16(line, b, out, wide, starts, sizes, samples, columns);
-    let d = ask_passes::answer_f32(line, c, out, slots, starts, sizes, floats, sums);
-    ask_sheet::answer(line, d, out, narrow, wide, starts, sizes, room)
+// The lists of `ask_alpha::answer`, and nothing else: one call.
+fn pixels(line: &[u8], a: Said, out: &mut [u8]) -> Said {
+    if a.done {
+        return a;
+    }
+    let mut bytes = [0u8; 131072];
+    let mut room = [0u8; 524288];
+    ask_alpha::answer(line, a, out, &mut bytes, &mut room)
+}
+
+// The lists of `ask_alpha_u16::answer`, and nothing else: one call.
+fn wide_pixels(line: &[u8], a: Said, out: &mut [u8]) -> Said {
+    if a.done {
+        return a;
+    }
+    let mut source = [0u16; 131072];
+    let mut lent = [0u16; 131072];
+    ask_alpha_u16::answer(line, a, out, &mut source, &mut lent)
+}
+
+// The lists of `ask_normalizer::answer`, and nothing else: one call.
+fn integers(line: &[u8], a: Said, out: &mut [u8]) -> Said {
+    if a.done {
+        return a;
+    }
+    let mut slots = [0.0f64; 131072];
+    let mut starts = [0u32; 131072];
+    let mut sizes = [0u32; 131072];
+    let mut narrow = [0i16; 131072];
+    let mut wide = [0i32; 131072];
+    ask_normalizer::answer(
+        line,
+        a,
+        out,
+        &mut slots,
+        &mut starts,
+        &mut sizes,
+        &mut narrow,
+        &mut wide,
+    )
+}
+
+// The lists of `ask_weights::answer`, and nothing else: one call.
+fn windows(line: &[u8], a: Said, out: &mut [u8]) -> Said {
+    if a.done {
+        return a;
+    }
+    let mut slots = [0.0f64; 131072];
+    let mut starts = [0u32; 131072];
+    let mut sizes = [0u32; 131072];
+    ask_weights::answer(line, a, out, &mut slots, &mut starts, &mut sizes)
+}
+
+// The lists of `ask_passes::answer_u16`, and nothing else: one call.
+fn frames(line: &[u8], a: Said, out: &mut [u8]) -> Said {
+    if a.done {
+        return a;
+    }
+    let mut wide = [0i32; 131072];
+    let mut starts = [0u32; 131072];
+    let mut sizes = [0u32; 131072];
+    let mut samples = [0u16; 131072];
+    let mut columns = [0u16; 131072];
+    ask_passes::answer_u16(
+        line,
+        a,
+        out,
+        &mut wide,
+        &mut starts,
+        &mut sizes,
+        &mut samples,
+        &mut columns,
+    )
+}
+
+// The lists of `ask_passes::answer_f32`, and nothing else: one call.
+fn float_frames(line: &[u8], a: Said, out: &mut [u8]) -> Said {
+    if a.done {
+        return a;
+    }
+    let mut slots = [0.0f64; 131072];
+    let mut starts = [0u32; 131072];
+    let mut sizes = [0u32; 131072];
+    let mut floats = [0.0f32; 32768];
+    let mut sums = [0.0f32; 131072];
+    ask_passes::answer_f32(
+        line,
+        a,
+        out,
+        &mut slots,
+        &mut starts,
+        &mut sizes,
+        &mut floats,
+        &mut sums,
+    )
+}
+
+// The lists of `ask_sheet::answer`, and nothing else: one call.
+fn sheets(line: &[u8], a: Said, out: &mut [u8]) -> Said {
+    if a.done {
+        return a;
+    }
+    let mut narrow = [0i16; 131072];
+    let mut wide = [0i32; 131072];
+    let mut starts = [0u32; 131072];
+    let mut sizes = [0u32; 131072];
+    let mut room = [0u8; 524288];
+    ask_sheet::answer(
+        line,
+        a,
+        out,
+        &mut narrow,
+        &mut wide,
+        &mut starts,
+        &mut sizes,
+        &mut room,
+    )
+}
+
+// The first of the groups.
+fn early(line: &[u8], a: Said, out: &mut [u8]) -> Said {
+    let b = small_groups(line, a, out);
+    let c = pixels(line, b, out);
+    let d = wide_pixels(line, c, out);
+    let e = integers(line, d, out);
+    windows(line, e, out)
+}
+
+// The rest of them.
+fn late(line: &[u8], a: Said, out: &mut [u8]) -> Said {
+    let b = frames(line, a, out);
+    let c = float_frames(line, b, out);
+    sheets(line, c, out)
 }
 
 // The answer to the line at s.at .. s.to, if there is one; the output's place behind it.
-pub(crate) fn answered(
-    s: State,
-    buf: &[u8],
-    out: &mut [u8],
-    bytes: &mut [u8],
-    room: &mut [u8],
-    samples: &mut [u16],
-    columns: &mut [u16],
-    floats: &mut [f32],
-    sums: &mut [f32],
-    starts: &mut [u32],
-    sizes: &mut [u32],
-    narrow: &mut [i16],
-    wide: &mut [i32],
-    slots: &mut [f64],
-) -> usize {
+pub(crate) fn answered(s: State, buf: &[u8], out: &mut [u8]) -> usize {
     let p = part_of(s, buf);
     let from = p.from;
     let to = p.to;
     let line = &buf[from..to];
     let a = begun(s, line, out);
-    let b = first_groups(
-        line,
-        a,
-        out,
-        bytes,
-        room,
-        starts,
-        sizes,
-        narrow,
-        wide,
-        slots,
-    );
-    let c = last_groups(
-        line,
-        b,
-        out,
-        room,
-        samples,
-        columns,
-        floats,
-        sums,
-        starts,
-        sizes,
-        narrow,
-        wide,
-        slots,
-    );
+    let b = early(line, a, out);
+    let c = late(line, b, out);
     ended(s.whole, c, out)
 }
