@@ -1,5 +1,5 @@
--- What the functions on bit patterns compute, against the definitions: the rounding shift, the branches of the narrowing, the NaNs.
--- Cited by the `_bits` functions and `narrow`. Assumes nothing.
+-- What the narrowing on bit patterns computes, against the definitions: the rounding shift, its branches, the NaNs. Cited by `narrow_bits`, `narrow` and, for the
+-- shift, by the roundings. Assumes nothing.
 use mathlib.Core.Path.{_≡_, refl, sym, ap, _∙_, subst}
 use mathlib.Core.Bool.{Bool, true, false, not, cond}
 use Prim.Native.Nat.{ℕ, suc, _+_, _-_, _*_, _/_, _%_, _^_, _≤_, _<_, zero-le, min, compare, Ordering}
@@ -8,15 +8,15 @@ use native.Mathlib.Omega.{arith}
 use lib.Dec.{T, leb, le→leb, nleb→lt, lit≤, lit<}
 use lib.Arith.{lt→nleb}
 use lib.Pow.{pow-pos, pow-mono, pow-lt, shr-lt}
-use lib.Ieee.{Float, nan, inf, fin, Format, binary32, binary64, nearest, ofBits, toBits, isNan, fits}
+use lib.Ieee.{Float, nan, inf, fin, binary32, binary64, nearest, ofBits, toBits, isNan, fits}
 use lib.Ieee.Fits.{nearest-le, round-fits, nan-fits, inf-fits}
 use lib.Ieee.Nearest.{closest, div-mono}
-use lib.Ieee.Bits.{cond-no, nanBits-is}
-use Rattle.numbers.specs.Whole.{whole, narrow}
+use lib.Ieee.Bits.{cond-no}
+use Rattle.numbers.specs.Whole.{narrow}
 use Rattle.numbers.specs.Inner.{narrowSize, narrowAt}
 use Rattle.numbers.proofs.NarrowLaws.{narrowSize-right, wide-53}
 use Rattle.floats.proofs.Digits.{compare-lt, compare-eq, compare-gt}
-use Rattle.floats.proofs.Codes.{nan-code, no-nan-code, code-back, round-number}
+use Rattle.floats.proofs.Codes.{nan-code, code-back, round-number}
 
 -- ---- the rounding shift
 pub shift-unit : (sh : ℕ) → sh < 64 → 1 * 2 ^ sh % 2 ^ 64 ≡ 2 ^ sh
@@ -60,7 +60,7 @@ shift-room w sh h l b =
     go w q h g = omega arith
 
 -- ---- the branches of `narrow_size`
-cond-yes : (b : Bool) (x y : ℕ) → T b → cond b x y ≡ x
+pub cond-yes : (b : Bool) (x y : ℕ) → T b → cond b x y ≡ x
 cond-yes true x y t = refl
 cond-yes false x y t = absurd t
 
@@ -162,20 +162,3 @@ unfolding narrow
 narrow-fits nan = nan-fits binary32
 narrow-fits (inf s) = inf-fits binary32 s
 narrow-fits (fin s m e) = round-fits binary32 s _ _
-
-pub whole-number : (g : Bool → ℕ → ℕ → ℕ) (f : Format) (x : Float) → T (not (isNan x)) → T (not (isNan (whole g f x)))
-unfolding isNan whole
-whole-number g f nan t = t
-whole-number g f (inf s) t = tt
-whole-number g f (fin s m e) t = round-number f s _ _
-
--- ---- the roundings on bit patterns
-pub whole-nan : (g : Bool → ℕ → ℕ → ℕ) (b : ℕ) → 0x7ff0_0000_0000_0000 < b % 2 ^ 63 → 0x7ff8_0000_0000_0000 ≡ toBits binary64 (whole g binary64 (ofBits binary64 b))
-whole-nan g b h = code ∙ ap (λ (z : Float). toBits binary64 (whole g binary64 z)) (sym (nan-code binary64 b h))
-  where
-    code : 0x7ff8_0000_0000_0000 ≡ toBits binary64 (whole g binary64 nan)
-    code = unfold toBits whole in refl
-
-pub whole-code : (g : Bool → ℕ → ℕ → ℕ) (b : ℕ) (y : Float) → b % 2 ^ 63 ≤ 0x7ff0_0000_0000_0000 → y ≡ whole g binary64 (ofBits binary64 b) → T (not (isNan y))
-whole-code g b y h e =
-    subst (λ (z : Float). T (not (isNan z))) (sym e) (whole-number g binary64 (ofBits binary64 b) (subst (λ (z : Bool). T (not z)) (nanBits-is binary64 b) (no-nan-code binary64 b h)))

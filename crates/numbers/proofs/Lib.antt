@@ -1,7 +1,10 @@
 pub mod SignBit
 pub mod Sizes
+pub mod WholeLaws
+pub mod Directions
 pub mod NarrowLaws
 pub mod Codes
+pub mod WholeCodes
 pub mod Window
 pub mod AtLeast
 pub mod Ranges

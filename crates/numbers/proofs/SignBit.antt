@@ -1,17 +1,15 @@
--- The sign bit of a pattern: clearing it gives the absolute value, reading it gives the sign. Cited by `abs` and `negative`. Assumes nothing.
+-- The sign bit of a pattern: clearing it gives the absolute value. Cited by `abs`. Assumes nothing.
 use mathlib.Core.Path.{_≡_, refl, sym, ap, _∙_, subst}
 use mathlib.Core.Bool.{Bool, true, false, not}
-use Prim.Native.Nat.{ℕ, zero, suc, _+_, _-_, _*_, _/_, _%_, _^_, _≤_, _<_}
+use Prim.Native.Nat.{ℕ, zero, suc, _+_, _-_, _*_, _/_, _%_, _^_, _<_}
 use native.Mathlib.Nat.{mod-eq-of-lt, add-mod-left}
 use native.Mathlib.Omega.{arith}
 use lib.IntN.{ℤ}
-use lib.Dec.{T, leb, le→leb}
-use lib.Arith.{lt→nleb}
+use lib.Dec.{T}
 use lib.Ieee.{Float, nan, inf, fin, Format, binary32, binary64, prec, low, hid, top, size, up, down, neg, ofBits, toBits, nanBits, isNan, fits}
 use lib.Ieee.Fits.{neg-fits}
-use lib.Ieee.Bits.{ofBits-toBits, toBits-lt, nanBits-is, is-true, is-false}
+use lib.Ieee.Bits.{ofBits-toBits, toBits-lt, nanBits-is}
 use Rattle.numbers.specs.Whole.{abs}
-use Rattle.numbers.specs.Inner.{signOf}
 use Rattle.floats.proofs.Laws.{toBits-is}
 
 -- ---- the sign bit
@@ -42,13 +40,6 @@ inf-cleared binary32 false = refl
 inf-cleared binary64 true = refl
 inf-cleared binary64 false = refl
 
-inf-sign : (f : Format) (s : Bool) → leb (top f) (toBits f (inf s)) ≡ s
-unfolding toBits
-inf-sign binary32 true = refl
-inf-sign binary32 false = refl
-inf-sign binary64 true = refl
-inf-sign binary64 false = refl
-
 add-mod-top : (t r : ℕ) → r < t → (t + r) % t ≡ r
 add-mod-top t r h = add-mod-left t r ∙ mod-eq-of-lt h
 
@@ -77,13 +68,3 @@ cleared-is-abs f x t n = ap (ofBits f) (cleared f x t n) ∙ ofBits-toBits f (ab
 
 pub cleared-number : (f : Format) (x : Float) → T (fits f x) → T (not (isNan x)) → T (not (nanBits f (toBits f x % top f)))
 cleared-number f x t n = subst (λ (b : Bool). T (not b)) (sym (nanBits-is f (toBits f x % top f) ∙ ap isNan (cleared-is-abs f x t n))) (abs-number x n)
-
-pub sign-bit : (f : Format) (x : Float) → T (fits f x) → T (not (isNan x)) → leb (top f) (toBits f x) ≡ signOf x
-unfolding isNan
-sign-bit f nan t n = absurd n
-sign-bit f (inf s) t n = inf-sign f s
-sign-bit f (fin true m e) t n = is-true (leb (top f) (toBits f (fin true m e))) (le→leb (top f) (toBits f (fin true m e)) (up-to (top f) (toBits f (fin true m e)) (toBits f (fin false m e)) (with-sign f m e)))
-  where
-    up-to : (t a b : ℕ) → a ≡ t + b → t ≤ a
-    up-to t a b p = omega arith
-sign-bit f (fin false m e) t n = is-false (leb (top f) (toBits f (fin false m e))) (lt→nleb (top f) (toBits f (fin false m e)) (rest-lt f false m e t))

@@ -3,10 +3,10 @@ ghost use mathlib.Core.Path.{_≡_};
 ghost use Prim.Native.Nat.{_^_, _%_};
 ghost use lib.Ieee.{binary32, binary64, toBits, ofBits};
 ghost use Rattle.numbers.specs.Whole.{floor as floorF, ceil as ceilF, roundAway as roundF, narrow as narrowF};
-use super::ceil;
-use super::floor;
 use super::narrowing::narrow_size;
-use super::round;
+use super::whole::ceil_pattern;
+use super::whole::floor_pattern;
+use super::whole::round_pattern;
 
 // The sign bit, the infinity and the quiet NaN of binary64.
 const SIGN: u64 = 0x8000_0000_0000_0000;
@@ -29,7 +29,7 @@ pub fn floor_bits(b: u64) -> u64
     if b % SIGN > INFINITY {
         return QUIET_NAN;
     }
-    f64::to_bits(floor(f64::from_bits(b)))
+    floor_pattern(b)
 }
 
 // The pattern of the ceiling.
@@ -39,7 +39,7 @@ pub fn ceil_bits(b: u64) -> u64
     if b % SIGN > INFINITY {
         return QUIET_NAN;
     }
-    f64::to_bits(ceil(f64::from_bits(b)))
+    ceil_pattern(b)
 }
 
 // The pattern of the nearest whole number, a half going away from zero.
@@ -49,7 +49,7 @@ pub fn round_bits(b: u64) -> u64
     if b % SIGN > INFINITY {
         return QUIET_NAN;
     }
-    f64::to_bits(round(f64::from_bits(b)))
+    round_pattern(b)
 }
 
 // The binary64 pattern of the value that the binary32 pattern b stands for.

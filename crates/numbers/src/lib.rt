@@ -1,9 +1,9 @@
 // `numbers`: document 01's number helpers. On values: `finite`, `abs`, `floor`, `ceil`, `round` (half away from zero), `widen` (f32 to f64) and
 // `narrow` (f64 to f32, ties to even). The same on bit patterns, `abs_bits` and so on, where every NaN gives the quiet NaN with sign and payload 0.
-// The roundings work by trial steps on the size |x| and put the sign back, so that a zero result has the argument's sign.
+// The roundings work on the pattern of the size |x| (`whole`) and put the sign back, so that a zero result has the argument's sign.
 mod bits;
 mod narrowing;
-mod steps;
+mod whole;
 
 ghost use mathlib.Core.Path.{_≡_};
 ghost use lib.Ieee.{binary64};
@@ -34,46 +34,38 @@ pub fn abs(x: f64) -> f64
     f64::from_bits(f64::to_bits(x) % 0x8000_0000_0000_0000)
 }
 
-// The largest whole number that is at most x. From 2^52 on every double is whole.
+// The largest whole number that is at most x.
 pub fn floor(x: f64) -> f64
     ensures answer { λ r. ⌜ r ≡ floorF binary64 x ⌝ }
 {
-    let a = abs(x);
-    if a < 4503599627370496.0 {
-        if steps::negative(x) {
-            return steps::signed(true, steps::raised_size(a));
-        }
-        return steps::signed(false, steps::cut_size(a));
+    if x != x {
+        return 0.0 / 0.0;
     }
-    x
+    f64::from_bits(whole::floor_pattern(f64::to_bits(x)))
 }
 
 // The smallest whole number that is at least x.
 pub fn ceil(x: f64) -> f64
     ensures answer { λ r. ⌜ r ≡ ceilF binary64 x ⌝ }
 {
-    let a = abs(x);
-    if a < 4503599627370496.0 {
-        if steps::negative(x) {
-            return steps::signed(true, steps::cut_size(a));
-        }
-        return steps::signed(false, steps::raised_size(a));
+    if x != x {
+        return 0.0 / 0.0;
     }
-    x
+    f64::from_bits(whole::ceil_pattern(f64::to_bits(x)))
 }
 
 // The whole number nearest to x, a half going away from zero.
 pub fn round(x: f64) -> f64
     ensures answer { λ r. ⌜ r ≡ roundF binary64 x ⌝ }
 {
-    let a = abs(x);
-    if a < 4503599627370496.0 {
-        return steps::signed(steps::negative(x), steps::nearest_size(a));
+    if x != x {
+        return 0.0 / 0.0;
     }
-    x
+    f64::from_bits(whole::round_pattern(f64::to_bits(x)))
 }
 
-// The binary32 value nearest to x, a tie to the even one, an infinity where x is too large.
+// The binary32 value nearest to x, a tie to the even one, an infinity where x is too large. Document 01 names it; no crate here calls it, since a value has one NaN
+// and `ask` and the C interface speak of patterns (`narrow_bits`).
 pub fn narrow(x: f64) -> f32
     ensures answer { λ r. ⌜ r ≡ narrowF x ⌝ }
 {
@@ -83,7 +75,7 @@ pub fn narrow(x: f64) -> f32
     f32::from_bits(bits::narrow_bits(f64::to_bits(x)))
 }
 
-// The same value as a double: every binary32 value is one.
+// The same value as a double: every binary32 value is one. Document 01 names it; no crate here calls it, as for `narrow`.
 pub fn widen(x: f32) -> f64
     ensures answer { λ r. ⌜ r ≡ x ⌝ }
 {

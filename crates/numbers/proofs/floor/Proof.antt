@@ -1,54 +1,34 @@
--- `floor`: below 2 ^ 52 the size is raised under a minus sign and cut otherwise, and `joined` puts the sign back; from there on x is whole (`stays`).
--- `ceil` is the same with the two sizes exchanged. Assumes nothing.
-use borrow.Author.Needs.{needs}
-use mathlib.Core.Path.{sym, subst, _∙_}
-use mathlib.Core.Bool.{true, false}
+-- `floor`: a NaN is told by x != x; of any other x the pattern is worked out, and reading it back gives the value, since it fits binary64. Assumes nothing.
+use mathlib.Core.Path.{sym, subst}
 use lib.Dec.{T}
+use lib.Ieee.{binary64, div, ofBits, fits}
+use lib.Ieee.Compare.{differs-from-itself}
+use Rattle.floats.proofs.Codes.{equal-number}
 use Rattle.numbers.specs.Whole.{downward}
-use Rattle.numbers.proofs.Sizes.{tested, stays, joined, downward-one, raised-fits, cut-fits}
+use Rattle.numbers.proofs.WholeCodes.{whole-back, whole-read, nan-whole, number-code}
 use Rattle.numbers.proofs.floor.Statement.{statement}
 use Rattle.numbers.proofs.floor.Tie as tie
 
-abs-requires : tie.Need-abs-requires
-abs-requires c κs = search needs
-
-negative-requires : tie.Need-negative-requires
-negative-requires c κs = tested (c .before .before .args .x) (c .before .abs .result) (c .before .abs .ensures) (c .if1 .taken) .0
-
-raised-size-requires : tie.Need-raised-size-requires
-raised-size-requires c κs = let b = c .before .before in tested (b .before .before .args .x) (b .before .abs .result) (b .before .abs .ensures) (b .if1 .taken) .1
-
-signed-requires : tie.Need-signed-requires
-signed-requires c κs =
-    let b = c .before .before .before in
-    raised-fits (b .before .abs .result) (c .raised-size .result) (tested (b .before .before .args .x) (b .before .abs .result) (b .before .abs .ensures) (b .if1 .taken) .1) (c .raised-size .ensures)
+held : (c : tie.Start) → T (fits binary64 (c .args .x))
+held c = subst T (sym (c .good .0 .1)) tt
 
 returns : tie.Need-returns
-returns c =
-    let d = c .before .before in
-    let b = d .before .before in
-    c .signed .ensures
-    ∙ joined downward (b .before .before .args .x) (b .before .abs .result) true (c .before .raised-size .result) (b .before .abs .ensures) (tested (b .before .before .args .x) (b .before .abs .result) (b .before .abs .ensures) (b .if1 .taken) .1)
-    (sym (d .if2 .taken) ∙ d .before .negative .ensures) (c .before .raised-size .ensures)
+unfolding div ofBits
+returns c = nan-whole downward (c .before .args .x) (differs-from-itself (c .before .args .x) (subst T (sym (c .if1 .taken)) tt))
 
-cut-size-requires : tie.Need-cut-size-requires
-cut-size-requires c κs = let b = c .before .before in tested (b .before .before .args .x) (b .before .abs .result) (b .before .abs .ensures) (b .if1 .taken) .1
+float-to-bits-floor-pattern : tie.Need-float-to-bits-floor-pattern
+float-to-bits-floor-pattern c = equal-number (c .before .args .x) (c .if1 .left)
 
-signed-requires-2 : tie.Need-signed-requires-2
-signed-requires-2 c κs =
-    let b = c .before .before .before in
-    cut-fits (b .before .abs .result) (c .cut-size .result) (tested (b .before .before .args .x) (b .before .abs .result) (b .before .abs .ensures) (b .if1 .taken) .1) (c .cut-size .ensures)
+floor-pattern-requires : tie.Need-floor-pattern-requires
+floor-pattern-requires c κs = number-code (c .before .args .x) (held (c .before)) (equal-number (c .before .args .x) (c .if1 .left))
+
+float-from-bits-result : tie.Need-float-from-bits-result
+float-from-bits-result c =
+    let s = c .before .before in
+    whole-read downward (s .args .x) (c .floor-pattern .result) (held s) (equal-number (s .args .x) (c .before .if1 .left)) (c .floor-pattern .ensures)
 
 returns-2 : tie.Need-returns-2
-returns-2 c =
-    let d = c .before .before in
-    let b = d .before .before in
-    c .signed2 .ensures
-    ∙ joined downward (b .before .before .args .x) (b .before .abs .result) false (c .before .cut-size .result) (b .before .abs .ensures) (tested (b .before .before .args .x) (b .before .abs .result) (b .before .abs .ensures) (b .if1 .taken) .1)
-    (sym (d .if2 .left) ∙ d .before .negative .ensures) (c .before .cut-size .ensures)
-
-returns-3 : tie.Need-returns-3
-returns-3 c = stays downward downward-one (c .before .before .args .x) (c .before .abs .result) (subst T (sym (c .before .before .good .0 .1)) tt) (c .before .abs .ensures) (c .if1 .left)
+returns-2 c = whole-back downward (c .before .before .args .x) (c .floor-pattern .result) (held (c .before .before)) (c .floor-pattern .ensures)
 
 pub floor-spec : {M : Type 1} → statement M
-floor-spec = tie.close (tie.spec abs-requires negative-requires raised-size-requires signed-requires returns cut-size-requires signed-requires-2 returns-2 returns-3)
+floor-spec = tie.close (tie.spec returns float-to-bits-floor-pattern floor-pattern-requires float-from-bits-result returns-2)

@@ -1,36 +1,34 @@
--- `round`: below 2 ^ 52 the nearest size with the sign put back (`joined`); from there on x is whole (`stays`). Assumes nothing.
-use borrow.Author.Needs.{needs}
-use mathlib.Core.Path.{sym, subst, _∙_}
+-- `round`: a NaN is told by x != x; of any other x the pattern is worked out, and reading it back gives the value, since it fits binary64. Assumes nothing.
+use mathlib.Core.Path.{sym, subst}
 use lib.Dec.{T}
+use lib.Ieee.{binary64, div, ofBits, fits}
+use lib.Ieee.Compare.{differs-from-itself}
+use Rattle.floats.proofs.Codes.{equal-number}
 use Rattle.numbers.specs.Whole.{away}
-use Rattle.numbers.proofs.Sizes.{tested, stays, joined, away-one, half-fits}
+use Rattle.numbers.proofs.WholeCodes.{whole-back, whole-read, nan-whole, number-code}
 use Rattle.numbers.proofs.round.Statement.{statement}
 use Rattle.numbers.proofs.round.Tie as tie
 
-abs-requires : tie.Need-abs-requires
-abs-requires c κs = search needs
-
-negative-requires : tie.Need-negative-requires
-negative-requires c κs = tested (c .before .before .args .x) (c .before .abs .result) (c .before .abs .ensures) (c .if1 .taken) .0
-
-nearest-size-requires : tie.Need-nearest-size-requires
-nearest-size-requires c κs = let b = c .before in tested (b .before .before .args .x) (b .before .abs .result) (b .before .abs .ensures) (b .if1 .taken) .1
-
-signed-requires : tie.Need-signed-requires
-signed-requires c κs =
-    let b = c .before .before in
-    half-fits (b .before .abs .result) (c .nearest-size .result) (tested (b .before .before .args .x) (b .before .abs .result) (b .before .abs .ensures) (b .if1 .taken) .1) (c .nearest-size .ensures)
+held : (c : tie.Start) → T (fits binary64 (c .args .x))
+held c = subst T (sym (c .good .0 .1)) tt
 
 returns : tie.Need-returns
-returns c =
-    let d = c .before .before in
-    let b = d .before in
-    c .signed .ensures
-    ∙ joined away (b .before .before .args .x) (b .before .abs .result) (d .negative .result) (c .before .nearest-size .result) (b .before .abs .ensures) (tested (b .before .before .args .x) (b .before .abs .result) (b .before .abs .ensures) (b .if1 .taken) .1)
-    (d .negative .ensures) (c .before .nearest-size .ensures)
+unfolding div ofBits
+returns c = nan-whole away (c .before .args .x) (differs-from-itself (c .before .args .x) (subst T (sym (c .if1 .taken)) tt))
+
+float-to-bits-round-pattern : tie.Need-float-to-bits-round-pattern
+float-to-bits-round-pattern c = equal-number (c .before .args .x) (c .if1 .left)
+
+round-pattern-requires : tie.Need-round-pattern-requires
+round-pattern-requires c κs = number-code (c .before .args .x) (held (c .before)) (equal-number (c .before .args .x) (c .if1 .left))
+
+float-from-bits-result : tie.Need-float-from-bits-result
+float-from-bits-result c =
+    let s = c .before .before in
+    whole-read away (s .args .x) (c .round-pattern .result) (held s) (equal-number (s .args .x) (c .before .if1 .left)) (c .round-pattern .ensures)
 
 returns-2 : tie.Need-returns-2
-returns-2 c = stays away away-one (c .before .before .args .x) (c .before .abs .result) (subst T (sym (c .before .before .good .0 .1)) tt) (c .before .abs .ensures) (c .if1 .left)
+returns-2 c = whole-back away (c .before .before .args .x) (c .round-pattern .result) (held (c .before .before)) (c .round-pattern .ensures)
 
 pub round-spec : {M : Type 1} → statement M
-round-spec = tie.close (tie.spec abs-requires negative-requires nearest-size-requires signed-requires returns returns-2)
+round-spec = tie.close (tie.spec returns float-to-bits-round-pattern round-pattern-requires float-from-bits-result returns-2)
