@@ -2,4 +2,5 @@ pub mod Colours
 pub mod PixelLaws
 pub mod WordLaws
 pub mod Sweep
+pub mod Rows
 pub mod Sure

@@ -2,6 +2,7 @@
 use crop_box::CropBox;
 use filters::FilterType;
 use request_fields::fields;
+use sheet::keys;
 
 pub enum Kind {
     Is(FilterType),
@@ -10,16 +11,16 @@ pub enum Kind {
 
 // Word k as the name of a filter.
 pub fn kind_at(line: &[u8], k: usize) -> Kind {
-    if fields::is(line, k, b"box") {
+    if fields::is(line, k, &keys::BOX) {
         return Kind::Is(FilterType::Box);
     }
-    if fields::is(line, k, b"bilinear") {
+    if fields::is(line, k, &keys::BILINEAR) {
         return Kind::Is(FilterType::Bilinear);
     }
-    if fields::is(line, k, b"catmullrom") {
+    if fields::is(line, k, &keys::CATMULL_ROM) {
         return Kind::Is(FilterType::CatmullRom);
     }
-    if fields::is(line, k, b"mitchell") {
+    if fields::is(line, k, &keys::MITCHELL) {
         return Kind::Is(FilterType::Mitchell);
     }
     Kind::Unknown

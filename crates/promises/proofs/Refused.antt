@@ -14,6 +14,7 @@ use Rattle.refusal.specs.declared.Refusal.the-variants.{BadSide, NotFinite, Neg
 use Rattle.refusal.specs.Refusal.{numberOf}
 use Rattle.alpha.specs.Lists.{badLists, multipliedList, dividedList, numberOf as numberOfApplied}
 use Rattle.alpha.specs.declared.Applied.the-variants as applied
+use Rattle.alpha_u16.specs.Lists.{multipliedList as multipliedList16, dividedList as dividedList16}
 use Rattle.filters.specs.declared.FilterType.{FilterType}
 use Rattle.crop_box.specs.declared.Cropped.the-variants.{Inside, Refused as CropRefused}
 use Rattle.crop_box.specs.Crop.{notFinite, negativeExtent, startOutside, endOutside, cropOf}
@@ -132,7 +133,7 @@ sheet-kept false false true n written old n0 = refl
 sheet-kept false false false n written old n0 = absurd (n0 refl)
 
 pub refused-unchanged : RefusedUnchanged
-unfolding writtenOf writtenU16 writtenF32 multipliedList dividedList byCase
+unfolding writtenOf writtenU16 writtenF32 multipliedList dividedList multipliedList16 dividedList16 byCase
 refused-unchanged = record {
   build = λ q ws ss zs n0 n8. (
     kept-as ws (λ p. weightsIn p ws) (length ws) (length ss) (length zs) (planOf q) n0 n8,
@@ -145,5 +146,7 @@ refused-unchanged = record {
   pass-f32 = λ s src row first count out n0. passed-kept-f32 (passedF32 s src row first count (length out)) _ out n0;
   multiply = λ src out n0. applied-kept (badLists (length src) (length out)) _ out n0;
   divide = λ src out n0. applied-kept (badLists (length src) (length out)) _ out n0;
+  multiply-u16 = λ src out n0. applied-kept (badLists (length src) (length out)) _ out n0;
+  divide-u16 = λ src out n0. applied-kept (badLists (length src) (length out)) _ out n0;
   sheet = λ kind store s out n0. sheet-kept (badSides (s .set .layout .lines) (windows (s .set .layout))) (badStored (s .set .layout) store (length (s .set .weights)) (s .precision)) (noRoom (length out) (length (sheetText kind store s))) (length (sheetText kind store s)) _ out n0;
 }

@@ -9,6 +9,7 @@ use lib.Ieee.{Float}
 use lib.ListN.{length}
 use Rattle.lists.specs.Tab.{front}
 use Rattle.alpha.specs.Lists.{appliedTo, multipliedList, dividedList, numberOf as numberOfApplied}
+use Rattle.alpha_u16.specs.Lists.{multipliedList as multipliedList16, dividedList as dividedList16}
 use Rattle.filters.specs.declared.FilterType.{FilterType}
 use Rattle.windows.specs.declared.Store.{Store}
 use Rattle.windows.specs.Set.{Set, Stored}
@@ -56,4 +57,6 @@ pub record RefusedUnchanged : Type 0 where
   pub pass-f32 : (s : Set Float) (src : List Float) (row first count : ℕ) (out : List Float) → Not 0 (numberOfPassedF32 (passedF32 s src row first count (length out))) → writtenF32 s src row first count out ≡ out
   pub multiply : (src out : List ℕ) → Not 0 (numberOfApplied (appliedTo src out)) → multipliedList src out ≡ out
   pub divide : (src out : List ℕ) → Not 0 (numberOfApplied (appliedTo src out)) → dividedList src out ≡ out
+  pub multiply-u16 : (src out : List ℕ) → Not 0 (numberOfApplied (appliedTo src out)) → multipliedList16 src out ≡ out
+  pub divide-u16 : (src out : List ℕ) → Not 0 (numberOfApplied (appliedTo src out)) → dividedList16 src out ≡ out
   pub sheet : (kind : FilterType) (store : Store) (s : Stored) (out : List ℕ) → Not 0 (numberOfSheet (answerOf kind store s (length out))) → sheetIn kind store s out ≡ out

@@ -1,6 +1,7 @@
 // One argument, as a name, a whole number or an edge; and what is wrong with it where it is none of these.
 use crop_edges::Edge;
 use filters::FilterType;
+use sheet::keys;
 use text::Number;
 
 // A filter's name read.
@@ -30,16 +31,16 @@ fn is(word: &[u8], name: &[u8]) -> bool {
 
 // A word as a filter's name.
 fn filter_of(word: &[u8]) -> Name {
-    if is(word, b"box") {
+    if is(word, &keys::BOX) {
         return Name::Is(FilterType::Box);
     }
-    if is(word, b"bilinear") {
+    if is(word, &keys::BILINEAR) {
         return Name::Is(FilterType::Bilinear);
     }
-    if is(word, b"catmullrom") {
+    if is(word, &keys::CATMULL_ROM) {
         return Name::Is(FilterType::CatmullRom);
     }
-    if is(word, b"mitchell") {
+    if is(word, &keys::MITCHELL) {
         return Name::Is(FilterType::Mitchell);
     }
     Name::Unknown
