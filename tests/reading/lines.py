@@ -45,7 +45,7 @@ def lent(most=131072, made=lambda v: v):
 u8, u16, u32 = number(0, 255, "not a u8"), number(0, 65535, "not a u16"), number(0, 2**32 - 1, "not a u32")
 i16, i32 = number(-(2**15), 2**15 - 1, "not an i16"), number(-(2**31), 2**31 - 1, "not an i32")
 b32, b64, flag = digits(8), digits(16), lambda word: int(one_of("not 0 or 1", "0", "1")(word))
-kind, store = str, one_of("not 16 or 32", "16", "32")  # a filter's name is looked up when all other words are right
+kind, store = lambda word: word, one_of("not 16 or 32", "16", "32")  # a filter's name is looked up when all other words are right
 
 
 def show(values, form="%d"):
@@ -126,6 +126,10 @@ def values(words, reads):
     return made
 
 
+SHEET = ((lent(524288),), sheet)  # the fields of a sheet after its sizes
+WHOLE = {}  # requests that read their words themselves
+
+
 def request(words):
     if words[0] == "fit":
         none = words[5:6] == ["none"]
@@ -135,8 +139,11 @@ def request(words):
         if words[4:5] not in (["16"], ["32"]):
             values(words[:5], (str, u32, u32, store))
         bits = int(words[4])
-        reads = (kind, u32, u32, lambda word: bits, u32, listed(i16 if bits == 16 else i32)) + LISTS + (lent(524288),)
-        return sheet(*values(words, reads))
+        ends, of = SHEET
+        reads = (kind, u32, u32, lambda word: bits, u32, listed(i16 if bits == 16 else i32)) + LISTS + ends
+        return of(*values(words, reads))
+    if words[0] in WHOLE:
+        return WHOLE[words[0]](words)
     if words[0] not in REQUESTS:
         raise Bad(1, "no request")
     reads, of = REQUESTS[words[0]]

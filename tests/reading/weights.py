@@ -42,7 +42,12 @@ def crop(width, height, patterns):
         return 3
     if left < 0 or top < 0 or left >= width or top >= height:
         return 4
-    return 5 if left + w > width or top + h > height else 0
+    return 5 if past(left, w, width) or past(top, h, height) else 0
+
+
+def past(start, extent, side):
+    """No. 5 for one axis: the sum is rounded once."""
+    return start + extent > side
 
 
 def fit(sw, sh, dw, dh, centring):

@@ -1,0 +1,360 @@
+"""What the requests of document 02 change in the reading. Each is a function that puts it in force; `run --with W-203,W-204` calls them, in the order of their numbers.
+From W-208 on a request takes W-207 to be in force. When one lands, its lines move to lines.py.
+
+Written from document 02, the decisions on its open points and the protocol alone."""
+from fractions import Fraction
+
+import frames
+import lines
+import numbers_of_bits as numbers
+import reader
+import weights
+from lines import REQUESTS, SET, LISTS, b64, i16, lent, listed, number, passed, show, u8, u16, u32
+
+
+# W-203: the readers.
+
+def bytes_of(word):
+    if word == "-":
+        return b""
+    if len(word) % 2 or any(c not in "0123456789abcdef" for c in word):
+        raise lines.Bad("not bytes in hexadecimal")
+    return bytes.fromhex(word)
+
+
+def was_read(stores):
+    def answer(text, slots, starts, sizes):
+        no, byte, head = reader.read(stores, text, slots, starts, sizes)
+        return "%d %d %s %s %s %s" % (no, byte, " ".join(map(str, head)), show(slots), show(starts), show(sizes))
+    return answer
+
+
+def w203():
+    for name, stores in (("read", (16, 32)), ("read16", (16,))):
+        REQUESTS[name] = ((bytes_of, lent(), lent(), lent()), was_read(stores))
+
+
+# W-204: No. 5 compares the exact sum with the side; the far edge that the scale is made of stays rounded.
+
+def past_exactly(start, extent, side):
+    return Fraction(start) + Fraction(extent) > side
+
+
+def w204():
+    weights.past = past_exactly
+
+
+# W-205: u8 rows with the 16-bit store.
+
+def u8_pass(count_of_lines, row, first, count, window, precision, ws, starts, sizes, samples, out):
+    no = frames.shape(count_of_lines, row, first, count, window, len(ws), starts, sizes, len(samples), len(out))
+    if no or not 4 <= precision <= 21:
+        return no or 10
+    half = 2 ** (precision - 1)
+    for i, n in enumerate(sizes):
+        if 255 * sum(map(abs, ws[i * window:i * window + n])) + half > 2**31 - 1:
+            return 9
+    for at, places in enumerate(frames.used(row, first, count, window, starts, sizes)):
+        out[at] = min(max(sum((ws[w] * samples[x] for w, x in places), half) // 2**precision, 0), 255)
+    return 0
+
+
+def w205():
+    REQUESTS["u8pass"] = ((u32,) * 6 + (listed(i16),) + LISTS + (listed(u8), lent()), passed(u8_pass, "%d"))
+
+
+# W-206: narrowing says whether its result is infinite, and the f32 pass how many samples are.
+
+def infinite32(b):
+    return b % 2**31 == 0x7F800000
+
+
+def narrowed(b):
+    made = numbers.narrow(b)
+    return "%08x %d" % (made, infinite32(made))
+
+
+def counted(*a):
+    no = frames.f32_pass(*a)
+    return "%d %d %s" % (no, sum(map(infinite32, a[-1])) if no == 0 else 0, show(a[-1], "%08x"))
+
+
+def w206():
+    REQUESTS["narrow"] = ((b64,), narrowed)
+    REQUESTS["f32pass"] = (REQUESTS["f32pass"][0], counted)
+
+
+# W-207: each window's excess, the total of its weights in use less 2^precision.
+
+i64 = number(-(2**63), 2**63 - 1, "not an i64")
+EXCESSES = listed(i64)
+
+
+def excesses_of(window, precision, ws, sizes):
+    return [sum(ws[i * window:i * window + n]) - 2**precision for i, n in enumerate(sizes)]
+
+
+def normalized(bits, limit):
+    def answer(count, window, ws, starts, sizes, out, excesses):
+        if frames.sides(count, starts) and len(excesses) < len(starts):
+            no, p = 7, 0
+        else:
+            no, p = frames.normalize(bits, limit, count, window, ws, starts, sizes, out)
+        if no == 0:
+            excesses[: len(starts)] = excesses_of(window, p, out, sizes)
+        return "%d %d %s %s" % (no, p, show(out), show(excesses))
+    return answer
+
+
+def knows_excesses(of):
+    """A pass: a wrong excess, or another number of them, is No. 10; what comes after 10 comes after it."""
+    def answer(count, row, first, columns, window, precision, ws, starts, sizes, excesses, samples, out):
+        no = frames.shape(count, row, first, columns, window, len(ws), starts, sizes, len(samples), len(out))
+        if no == 0 and 4 <= precision <= 45 and excesses != excesses_of(window, precision, ws, sizes):
+            no = 10
+        return no or of(count, row, first, columns, window, precision, ws, starts, sizes, samples, out)
+    return answer
+
+
+def sheet_text(kind, count, window, store, precision, ws, starts, sizes):
+    out = [0] * (200 + 12 * len(ws) + 40 * len(starts))
+    no, n = frames.sheet(kind, count, window, store, precision, ws, starts, sizes, out)
+    return no, bytes(out[:n]).decode()
+
+
+def sheet(kind, count, window, store, precision, ws, starts, sizes, excesses, out):
+    no, text = sheet_text(kind, count, window, store, precision, ws, starts, sizes)
+    if no == 0 and excesses != excesses_of(window, precision, ws, sizes):
+        no = 10
+    text += "excess=%s\n" % ",".join(map(str, excesses))
+    if no == 0 and len(out) < len(text):
+        no = 11
+    if no == 0:
+        out[: len(text)] = text.encode()
+    return "%d %d %s" % (no, len(text) if no == 0 else 0, "".join("%02x" % v for v in out) or "-")
+
+
+def was_read_whole(stores):
+    def answer(text, slots, starts, sizes, excesses):
+        no, byte, head = reader.read(stores, text, slots, starts, sizes, excesses)
+        return "%d %d %s %s %s %s %s" % (no, byte, " ".join(map(str, head)), show(slots), show(starts), show(sizes), show(excesses))
+    return answer
+
+
+def w207():
+    for name, store in (("norm16", (22, 15)), ("norm32", (46, 31))):
+        REQUESTS[name] = (SET + (listed(b64),) + LISTS + (lent(), lent()), normalized(*store))
+    REQUESTS["u16pass"] = ((u32,) * 6 + (listed(lines.i32),) + LISTS + (EXCESSES, listed(u16), lent()), passed(knows_excesses(frames.u16_pass), "%d"))
+    REQUESTS["u8pass"] = ((u32,) * 6 + (listed(i16),) + LISTS + (EXCESSES, listed(u8), lent()), passed(knows_excesses(u8_pass), "%d"))
+    lines.SHEET = ((EXCESSES, lent(524288)), sheet)
+    for name, stores in (("read", (16, 32)), ("read16", (16,))):
+        REQUESTS[name] = ((bytes_of,) + (lent(),) * 4, was_read_whole(stores))
+
+
+# W-208: offered repairs.
+
+def stored_set(top, count, window, precision, ws, starts, sizes, excesses):
+    """1 and 10 of a stored set."""
+    if not frames.sides(count, starts):
+        return 1
+    good = frames.fits(count, window, len(ws), starts, sizes) and 4 <= precision <= (21 if top == 2**15 else 45)
+    return 0 if good and excesses == excesses_of(window, precision, ws, sizes) else 10
+
+
+def in_use(window, sizes):
+    return [i * window + k for i, n in enumerate(sizes) for k in range(n)]
+
+
+def accept(store, count, window, precision, ws, starts, sizes, excesses, offered_window, offered_precision, offered_starts, offered_sizes, offered):
+    no = stored_set(2 ** (store - 1), count, window, precision, ws, starts, sizes, excesses)
+    if no == 0:
+        same = (window, precision, starts, sizes, len(ws)) == (offered_window, offered_precision, offered_starts, offered_sizes, len(offered))
+        good = same and all(abs(offered[k] - ws[k]) <= 1 for k in in_use(window, sizes)) and not any(excesses_of(window, precision, offered, sizes))
+        no = 0 if good else 14
+    if no == 0:
+        for k in in_use(window, sizes):
+            ws[k] = offered[k]
+        excesses[:] = [0] * len(excesses)
+    return "%d %s %s" % (no, show(ws), show(excesses))
+
+
+def offer(store, count, window, precision, ws, starts, sizes, excesses, out):
+    top, line = 2 ** (store - 1), 0
+    no = 1 if not frames.sides(count, starts) else 7 if len(out) < len(starts) * window else stored_set(top, count, window, precision, ws, starts, sizes, excesses)
+    made = [0] * len(ws)
+    for i, n in enumerate(sizes) if no == 0 else ():
+        left, step = abs(excesses[i]), -1 if excesses[i] > 0 else 1
+        for k in range(i * window, i * window + n):
+            moves = left > 0 and -top <= ws[k] + step < top
+            made[k], left = ws[k] + step * moves, left - moves
+        if left:
+            no, line = 14, i
+            break
+    if no == 0:
+        out[: len(made)] = made
+    return "%d %d %s" % (no, line, show(out))
+
+
+def by_store(fields, of):
+    """A request whose second word is the store; weights of 16 bits are an i16 list."""
+    def answer(words):
+        if words[1:2] not in (["16"], ["32"]):
+            lines.values(words[:2], (lines.store,))
+        bits = int(words[1])
+        return of(*lines.values(words, (lambda word: bits,) + fields(listed(i16 if bits == 16 else lines.i32))))
+    return answer
+
+
+def w208():
+    stored = lambda weight: (u32, u32, u32, weight) + LISTS + (EXCESSES,)
+    lines.WHOLE["accept"] = by_store(lambda weight: stored(weight) + (u32, u32) + LISTS + (weight,), accept)
+    lines.WHOLE["offer"] = by_store(lambda weight: stored(weight) + (lent(),), offer)
+
+
+# W-209: two clients, one store.
+
+class Store:
+    def __init__(self, slots):
+        self.slots, self.shares, self.sets = slots, (0, 0), [None, None]
+
+    def restart(self, a, b):
+        if a + b > self.slots:
+            return "15"
+        self.shares, self.sets = (a, b), [None, None]
+        return "0"
+
+    def put(self, client, kind, adapts, axis, sw, sh, out, *box):
+        if retired(kind):
+            return "16:0:0"
+        if client > 1:
+            return "10:0:0"
+        slots, starts, sizes = [0] * self.shares[client], [0] * 8192, [0] * 8192
+        no, line, window = weights.build(kind, adapts, axis, sw, sh, out, box, slots, starts, sizes)
+        if no == 0:
+            made, n = [0] * (window * out), window * out
+            no, p = frames.normalize(46, 31, (sw, sh)[axis], window, slots[:n], starts[:out], sizes[:out], made)
+            if no == 0:
+                self.sets[client] = ((sw, sh)[axis], window, p, made, starts[:out], sizes[:out])
+        return "%d:%d:%d" % (no, line if no == 8 else 0, window if no == 0 else 0)
+
+    def run(self, client, row, first, count, samples, out):
+        if client > 1 or self.sets[client] is None:
+            return "10:" + show(out)
+        side, window, p, ws, starts, sizes = self.sets[client]
+        return "%d:%s" % (frames.u16_pass(side, row, first, count, window, p, ws, starts, sizes, samples, out), show(out))
+
+
+def retired(kind):
+    return kind == "mitchell" and "W-211" in IN_FORCE
+
+
+def store(words):
+    slots, calls = lines.values(words, (number(0, 131072, "no length up to 131072"), lambda word: word))
+    held, said = Store(slots), []
+    reads = {"r": (u32, u32), "p": (u32, lines.one_of("no filter", *weights.FILTERS), lines.flag, lines.flag, u32, u32, u32) + (b64,) * 4, "u": (u32, u32, u32, u32, listed(u16), lent())}
+    for call in calls.split("/"):
+        name, *fields = call.split(":")
+        try:
+            made = lines.values([name] + fields, reads[name])
+        except (KeyError, lines.Bad):
+            raise lines.Bad(3, "no calls of a store")
+        said.append({"r": held.restart, "p": held.put, "u": held.run}[name](*made))
+    return "/".join(said)
+
+
+def w209():
+    lines.WHOLE["store"] = store
+
+
+# W-210: why a pixel has its number.
+
+def story(count, row, window, precision, ws, starts, sizes, excesses, samples, line, column, out):
+    windows = len(starts)
+    no = frames.shape(count, row, 0, 0, window, len(ws), starts, sizes, len(samples), 0)
+    if no == 0 and not (4 <= precision <= 45 and excesses == excesses_of(window, precision, ws, sizes) and line < windows and column < row):
+        no = 10
+    text = ""
+    if no == 0:
+        total, half = 0, 2 ** (precision - 1)
+        for k in range(sizes[line]):
+            n, w = starts[line] + k, ws[line * window + k]
+            s = samples[n * row + column]
+            total += w * s
+            text += "line=%d,%d,%d,%d\n" % (n, w, s, w * s)
+        shifted = (total + half) // 2**precision
+        text += "total=%d\nhalf=%d\nshifted=%d\nclip=%s\nfinal=%d\n" % (
+            total, half, shifted, "low" if shifted < 0 else "high" if shifted > 65535 else "none", min(max(shifted, 0), 65535))
+        no = 11 if len(out) < len(text) else 0
+    if no == 0:
+        out[: len(text)] = text.encode()
+    return "%d %d %s" % (no, len(text) if no == 0 else 0, "".join("%02x" % v for v in out) or "-")
+
+
+def w210():
+    REQUESTS["story"] = ((u32,) * 4 + (listed(lines.i32),) + LISTS + (EXCESSES, listed(u16), u32, u32, lent(524288)), story)
+
+
+# W-211: no new set is built with Mitchell.
+
+def built(k, *a):
+    return "16 0 0 %s %s %s" % (show(a[-3], "%016x"), show(a[-2]), show(a[-1])) if k == "mitchell" else lines.built(k, *a)
+
+
+def filtered(k, b):
+    if k == "mitchell":
+        raise lines.Bad(2, "no filter")
+    return lines.filtered(k, b)
+
+
+def w211():
+    IN_FORCE.add("W-211")
+    REQUESTS["build"] = (REQUESTS["build"][0], built)
+    REQUESTS["filter"] = (REQUESTS["filter"][0], filtered)
+
+
+# W-213: numbers over a text of sheets, end to end.
+
+def book(text):
+    sheets, excesses, precisions, negative, stopped, at = 0, [], [], 0, 0, 0
+    while at < len(text) and not stopped:
+        try:
+            _, (_, p, _, _, rows, found), at = reader.one(text, at, (16, 32), True)
+        except reader.Stop:
+            stopped = 13
+            continue
+        sheets, excesses, precisions = sheets + 1, excesses + found, precisions + [p] * len(found)
+        negative += sum(min(row) < 0 for row in rows)
+    notflat = sum(131070 * abs(e) >= 2**p for e, p in zip(excesses, precisions))
+    told = (("sheets", sheets), ("windows", len(excesses)), ("least", min(excesses, default=0)), ("most", max(excesses, default=0)),
+            ("notflat", notflat), ("negative", negative), ("stopped", stopped))
+    return "".join("%s=%d\n" % x for x in told).encode().hex()
+
+
+def w213():
+    REQUESTS["book"] = ((bytes_of,), book)
+
+
+# W-214: the u16 pass on the frame with rows and columns exchanged, for 1 to 4 components a pixel.
+
+def sideways(components, rows, row, first, count, window, precision, ws, starts, sizes, excesses, samples, out):
+    if not 1 <= components <= 4 or row % components:
+        return 1
+    pixels, windows = row // components, len(starts)
+    no = frames.shape(pixels, rows * components, first * components, count * components, window, len(ws), starts, sizes, len(samples), len(out))
+    if no or not 4 <= precision <= 45 or excesses != excesses_of(window, precision, ws, sizes):
+        return no or 10
+    half = 2 ** (precision - 1)
+    for y in range(count):
+        for i in range(windows):
+            for k in range(components):
+                total = sum(ws[i * window + n] * samples[(first + y) * row + (starts[i] + n) * components + k] for n in range(sizes[i]))
+                out[(y * windows + i) * components + k] = min(max((total + half) // 2**precision, 0), 65535)
+    return 0
+
+
+def w214():
+    REQUESTS["sideways"] = ((u32,) * 7 + (listed(lines.i32),) + LISTS + (EXCESSES, listed(u16), lent()), passed(sideways, "%d"))
+
+
+IN_FORCE = set()
+LANDS = {"W-203": w203, "W-204": w204, "W-205": w205, "W-206": w206, "W-207": w207, "W-208": w208, "W-209": w209, "W-210": w210, "W-211": w211, "W-213": w213, "W-214": w214}
