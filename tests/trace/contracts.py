@@ -7,16 +7,29 @@ import tree
 SHOWN = 5  # labels in a cell; the rest are counted
 
 
-def reached(t, crate):
-    """For each public function of a crate: the functions and constants that it calls or names, and theirs, and the definitions that their contracts rest on."""
+def called(t, crate):
+    """For each function and constant of a crate: those of the crate, and the workers lent to it, whose names stand in it."""
     here, names, bodies = crate + "::", {}, {}
+    for worker in t.workers:
+        if worker.split("::")[0] in t.uses[crate]:
+            names.setdefault(t.fns[worker].name, []).append(worker)
     for f in [f for f in t.fns.values() if f.crate == crate]:
         names.setdefault(f.name, []).append(here + f.name)
         bodies[here + f.name] = tree.read(t.root, "crates", crate, "src", f.file)[f.start:f.stop].replace("Self::", f.name.split("::")[0] + "::")
     for file, name, start, stop in tree.constants(t.root, crate):
         names.setdefault(name, []).append(here + name)
         bodies[here + name] = tree.read(t.root, "crates", crate, "src", file)[start:stop]
-    calls = {k: {x for w in set(re.findall(r"\w+", b)) | set(re.findall(r"\w+::\w+", b)) for x in names.get(w, []) if x != k} for k, b in bodies.items()}
+    return {k: {x for w in set(re.findall(r"\w+", b)) | set(re.findall(r"\w+::\w+", b)) for x in names.get(w, []) if x != k} for k, b in bodies.items()}
+
+
+def reached(t, crate):
+    """For each public function of a crate: the functions and constants that it calls or names, and theirs, also the workers that another crate lends, and the
+    definitions that their contracts rest on."""
+    here, calls, todo = crate + "::", {}, [crate]
+    while todo:
+        lender = todo.pop()
+        calls.update(called(t, lender))
+        todo += [c for c in t.uses[lender] if any(w.startswith(c + "::") for w in t.workers)]
     for f in [f for f in t.public() if f.crate == crate]:
         seen, todo = set(), [here + f.name]
         while todo:
@@ -30,12 +43,13 @@ def reached(t, crate):
 
 
 def of_functions(t):
-    """The labels of each public function: edits of its crate that change it, what it calls, or a definition that its contract rests on; those of its own code first."""
+    """The labels of each public function: edits of its crate, and of crates that lend it workers, that change it, what it calls, or a definition that its contract
+    rests on; those of its own code first."""
     rows = {}
     for crate in t.crates:
-        edits = [(label, e) for label, e in t.edits.items() if e.crate == crate]
         for name, places in reached(t, crate):
-            found = [label for label, e in edits if e.places & places]
+            lenders = {crate} | {w.split("::")[0] for w in t.workers if w in places}
+            found = [label for label, e in t.edits.items() if e.crate in lenders and e.places & places]
             rows[name] = sorted(found, key=lambda l: (name not in t.edits[l].places, not isinstance(t.edits[l].place, str), l))
     return rows
 

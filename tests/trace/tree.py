@@ -90,7 +90,11 @@ class Tree:
         self.crates = re.findall(r"(?m)^(\w+):", read(root, "crates.txt"))
         every = lambda f: [x for c in self.crates for x in f(root, c)]
         self.defs = {(d.crate, d.file, d.name): d for d in every(definitions)}
-        self.fns = {f.crate + "::" + f.name: f for f in every(functions)}
+        self.uses = {c: d.split() for c, d in re.findall(r"(?m)^(\w+):(.*)$", read(root, "crates.txt"))}
+        # public only so that a sister crate may call them: inner functions for a reader (docs/CONTRACTS.md, "Workers")
+        lent = re.findall(r"\w+", " ".join(re.findall(r"(?m)^Workers:(.*)$", read(root, "docs", "CONTRACTS.md"))))
+        self.workers = {f.crate + "::" + f.name for f in every(functions) if f.public and f.name in lent}
+        self.fns = {k: f._replace(public=f.public and k not in self.workers) for f in every(functions) for k in [f.crate + "::" + f.name]}
         self.laws = collections.defaultdict(list)
         for law in every(laws):
             self.laws[law.crate, law.name].append(law)

@@ -7,10 +7,10 @@ use native.Mathlib.Omega.{arith}
 use lib.Dec.{eqb}
 use lib.ListN.{length, getD}
 use Rattle.lists.proofs.TabLaws.{Written}
-use Rattle.alpha.specs.Alpha.{multiplied, reciprocal, quotient, divided}
-use Rattle.alpha.specs.Lists.{componentAt}
+use Rattle.colours.specs.Alpha.{multiplied, reciprocal, quotient, divided}
+use Rattle.pixel_lists.specs.Lists.{componentAt}
 use Rattle.alpha.specs.Words.{word, wordAt, onColours, storedWord}
-use Rattle.alpha.proofs.PixelLaws.{colour, kept, pixel-more, still}
+use Rattle.pixel_lists.proofs.PixelLaws.{colour, kept, pixel-more, still}
 
 -- a word's bytes
 pub record Bytes (w b0 b1 b2 b3 : ℕ) : Type 0 where

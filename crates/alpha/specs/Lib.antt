@@ -1,4 +1,2 @@
-pub mod Alpha
 pub mod Lists
 pub mod Words
-pub mod Steps

@@ -3,7 +3,7 @@
 use mathlib.Core.List.{List}
 use Prim.Native.Nat.{ℕ, _+_, _*_, _/_, _%_}
 use lib.ListN.{getD}
-use Rattle.alpha.specs.Lists.{stored}
+use Rattle.pixel_lists.specs.Lists.{stored}
 
 abbrev pub word : ℕ → ℕ → ℕ → ℕ → ℕ
 word c0 c1 c2 alpha = c0 + c1 * 256 + c2 * 65536 + alpha * 16777216

@@ -6,8 +6,8 @@ ghost use mathlib.Core.Path.{_≡_};
 ghost use Prim.Native.Nat.{_%_, _≤_};
 ghost use lib.ListN.{length};
 ghost use Rattle.lists.specs.Tab.{tab};
-ghost use Rattle.alpha.specs.Alpha.{divided, reciprocal};
-ghost use Rattle.alpha.specs.Lists.{componentAt};
+ghost use Rattle.colours.specs.Alpha.{divided, reciprocal};
+ghost use Rattle.pixel_lists.specs.Lists.{componentAt};
 
 // The table's entry for alpha.
 fn reciprocal_of(alpha: u8, reciprocals: &[u32; 256]) -> u32

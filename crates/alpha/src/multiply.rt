@@ -6,8 +6,8 @@ ghost use mathlib.Core.Path.{_≡_};
 ghost use Prim.Native.Nat.{_%_};
 ghost use lib.ListN.{length};
 ghost use Rattle.lists.specs.Tab.{tab};
-ghost use Rattle.alpha.specs.Alpha.{multiplied};
-ghost use Rattle.alpha.specs.Lists.{componentAt};
+ghost use Rattle.colours.specs.Alpha.{multiplied};
+ghost use Rattle.pixel_lists.specs.Lists.{componentAt};
 
 // Every pixel of src into dst.
 pub(crate) fn multiply_into(src: &[u8], dst: &mut [u8])

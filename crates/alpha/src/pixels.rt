@@ -1,11 +1,11 @@
 // A pixel as a word of 32 bits, its first component lowest. `load4` and `store4` are functions of their own so that each becomes one
 // access of the processor; in a pixel all components are read before the first is written.
-use crate::common::clipped_quotient;
-use crate::common::product;
+use colours::clipped_quotient;
+use colours::product;
 ghost use mathlib.Core.Path.{_≡_};
 ghost use Prim.Native.Nat.{_+_, _/_, _<_, _≤_};
 ghost use lib.ListN.{length};
-ghost use Rattle.alpha.specs.Alpha.{multiplied, quotient};
+ghost use Rattle.colours.specs.Alpha.{multiplied, quotient};
 ghost use Rattle.alpha.specs.Words.{wordAt, onColours, storedWord};
 
 fn byte(x: u8) -> u32

@@ -1,20 +1,15 @@
 // Lists of pixels, as in the Rust's alpha/u8x4/native.rs.
-use crate::Applied;
 use crate::divide::divide_into;
 use crate::divide::divide_within;
 use crate::multiply::multiply_into;
 use crate::multiply::multiply_within;
 use crate::recip::RECIP_ALPHA;
+use pixel_lists::Applied;
+use pixel_lists::bad_lists;
 use refusal::Refusal;
 ghost use mathlib.Core.Path.{_≡_};
-ghost use Rattle.alpha.specs.Lists.{badLists, appliedTo, multipliedList, dividedList};
-
-// Whether two lists are not equally long, or no multiple of four components long: for lists of any width.
-pub fn bad_lists(src: usize, dst: usize) -> bool
-    ensures answer { λ r. ⌜ r ≡ badLists src dst ⌝ }
-{
-    (src != dst) | (src % 4 != 0)
-}
+ghost use Rattle.pixel_lists.specs.Lists.{appliedTo};
+ghost use Rattle.alpha.specs.Lists.{multipliedList, dividedList};
 
 // Each pixel of src, its colours multiplied by its alpha, into dst.
 pub fn multiply_alpha(src: &[u8], dst: &mut [u8]) -> Applied

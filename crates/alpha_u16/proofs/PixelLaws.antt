@@ -6,8 +6,8 @@ use Prim.Native.Nat.{ℕ, _+_, _*_, _≤_}
 use native.Mathlib.Omega.{arith}
 use lib.ListN.{length, getD}
 use Rattle.lists.proofs.TabLaws.{Written}
-use Rattle.alpha.specs.Lists.{componentAt, stored}
-use Rattle.alpha.proofs.PixelLaws.{colour, kept, pixel-more, still}
+use Rattle.pixel_lists.specs.Lists.{componentAt, stored}
+use Rattle.pixel_lists.proofs.PixelLaws.{colour, kept, pixel-more, still}
 
 module _ (op : ℕ → ℕ → ℕ) (src : List ℕ) (q : ℕ) where
   pub pixel-into : {old now : List ℕ} (c0 c1 c2 alpha : ℕ) → let a = getD src (q * 4 + 3) 0 in

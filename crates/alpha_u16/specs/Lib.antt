@@ -1,2 +1,1 @@
-pub mod Alpha
 pub mod Lists

@@ -1,8 +1,8 @@
--- The lent list after a call, 16 bits: `alpha`'s rule with the operations of 16. Cited by the contracts of the four list functions. Definitions only. Assumes nothing.
+-- The lent list after a call, 16 bits: `pixel_lists`' rule with the operations of 16. Cited by the contracts of the four list functions. Definitions only. Assumes nothing.
 use mathlib.Core.List.{List}
 use Prim.Native.Nat.{ℕ}
-use Rattle.alpha.specs.Lists.{appliedList}
-use Rattle.alpha_u16.specs.Alpha.{multiplied, divided}
+use Rattle.pixel_lists.specs.Lists.{appliedList}
+use Rattle.colours_u16.specs.Alpha.{multiplied, divided}
 
 unfoldable pub multipliedList : List ℕ → List ℕ → List ℕ
 multipliedList = appliedList multiplied

@@ -1,6 +1,5 @@
 // `alpha_u16`: lists of four-component pixels of 16 bits (three colours, then alpha) whose colours are `multiplied` or `divided` by their own alpha, into another
-// list or in place. The 16-bit half of the Rust's alpha/common.rs, with the reciprocal worked out and no table. What a list of pixels is, `alpha` says.
-mod common;
+// list or in place. One colour is `colours_u16`'s subject, what a list of pixels is that of `pixel_lists`.
 mod divide;
 mod multiply;
 mod pixels;

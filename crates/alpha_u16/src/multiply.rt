@@ -4,8 +4,8 @@ ghost use mathlib.Core.Path.{_≡_};
 ghost use Prim.Native.Nat.{_%_};
 ghost use lib.ListN.{length};
 ghost use Rattle.lists.specs.Tab.{tab};
-ghost use Rattle.alpha.specs.Lists.{componentAt};
-ghost use Rattle.alpha_u16.specs.Alpha.{multiplied};
+ghost use Rattle.pixel_lists.specs.Lists.{componentAt};
+ghost use Rattle.colours_u16.specs.Alpha.{multiplied};
 
 // Every pixel of src into dst.
 pub(crate) fn multiply_into(src: &[u16], dst: &mut [u16])

@@ -1,12 +1,12 @@
 // A pixel written with its colours changed. The reciprocal is worked out once for its three colours.
-use crate::common::div_and_clip16;
-use crate::common::mul_div_65535;
-use crate::common::reciprocal;
+use colours_u16::div_and_clip16;
+use colours_u16::mul_div_65535;
+use colours_u16::reciprocal;
 ghost use mathlib.Core.Path.{_≡_};
 ghost use Prim.Native.Nat.{_+_, _≤_};
 ghost use lib.ListN.{length};
-ghost use Rattle.alpha.specs.Lists.{stored};
-ghost use Rattle.alpha_u16.specs.Alpha.{multiplied, divided};
+ghost use Rattle.pixel_lists.specs.Lists.{stored};
+ghost use Rattle.colours_u16.specs.Alpha.{multiplied, divided};
 
 // The pixel written with its first component at i.
 fn store4(s: &mut [u16], i: usize, c0: u16, c1: u16, c2: u16, alpha: u16)

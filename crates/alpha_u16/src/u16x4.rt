@@ -3,11 +3,11 @@ use crate::divide::divide_into;
 use crate::divide::divide_within;
 use crate::multiply::multiply_into;
 use crate::multiply::multiply_within;
-use alpha::Applied;
-use alpha::bad_lists;
+use pixel_lists::Applied;
+use pixel_lists::bad_lists;
 use refusal::Refusal;
 ghost use mathlib.Core.Path.{_≡_};
-ghost use Rattle.alpha.specs.Lists.{appliedTo};
+ghost use Rattle.pixel_lists.specs.Lists.{appliedTo};
 ghost use Rattle.alpha_u16.specs.Lists.{multipliedList, dividedList};
 
 // Each pixel of src, its colours multiplied by its alpha, into dst.

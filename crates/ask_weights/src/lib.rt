@@ -1,11 +1,11 @@
 // The request `build KIND ADAPT AXIS SW SH OUT L T W H NSLOTS NSTARTS NSIZES`, answered by `coefficients`.
 use answer_lines::Said;
 use answer_lines::emit;
-use coefficients::Axis;
 use coefficients::Built;
-use coefficients::Request;
 use filter_fields::Kind;
 use filters::FilterType;
+use plans::Axis;
+use plans::Request;
 use request_fields::f64s;
 use request_fields::fields;
 use request_fields::u32s;

@@ -12,9 +12,9 @@ use Rattle.crop_box.specs.declared.CropBox.{CropBox}
 use Rattle.crop_box.specs.declared.Centring.{Centring}
 use Rattle.crop_box.specs.declared.Centring.the-variants.{Absent, At}
 use Rattle.crop_box.specs.Fit.{fitOf, boxOf, numberOf as numberOfFitted}
-use Rattle.coefficients.specs.declared.Axis.{Axis}
-use Rattle.coefficients.specs.declared.Request.{Request}
-use Rattle.coefficients.specs.declared.Axis.the-variants.{Across, Down}
+use Rattle.plans.specs.declared.Axis.{Axis}
+use Rattle.plans.specs.declared.Request.{Request}
+use Rattle.plans.specs.declared.Axis.the-variants.{Across, Down}
 
 -- a code that names nothing
 abbrev pub badCode : ℕ

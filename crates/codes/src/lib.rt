@@ -2,9 +2,9 @@
 // a code that names nothing itself, with `badCode`, before it asks here.
 ghost use mathlib.Core.Path.{_≡_};
 ghost use Rattle.codes.specs.Codes.{filterOf, axisOf, centringOf};
-use coefficients::Axis;
 use crop_box::Centring;
 use filters::FilterType;
+use plans::Axis;
 
 // The filter of a code: 0 Box, 1 Bilinear, 2 CatmullRom, else Mitchell, whose code is 3. No caller asks with a code above 3.
 pub fn filter_named(code: u32) -> FilterType

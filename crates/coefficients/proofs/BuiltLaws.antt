@@ -15,16 +15,18 @@ use Rattle.lists.proofs.FirstLaws.{first-le, first-none}
 use Rattle.lists.proofs.TabLaws.{front-below}
 use Rattle.numbers.proofs.Window.{range-fits-window}
 use Rattle.refusal.specs.declared.Refusal.the-variants.{TooFewSlots}
-use Rattle.coefficients.specs.declared.Request.{Request}
-use Rattle.coefficients.specs.declared.Plan.{Plan}
-use Rattle.coefficients.specs.declared.Planned.{Planned}
-use Rattle.coefficients.specs.declared.Planned.the-variants.{Ready, Refused}
+use Rattle.plans.specs.declared.Request.{Request}
+use Rattle.plans.specs.declared.Plan.{Plan}
+use Rattle.plans.specs.declared.Planned.{Planned}
+use Rattle.plans.specs.declared.Planned.the-variants.{Ready, Refused}
 use Rattle.coefficients.specs.declared.Built.the-variants.{Done, Blank, Refused as BuildRefused}
-use Rattle.coefficients.specs.Lines.{centre, rangeStart, rangeStop, lead, size, blank, firstBlank, orZero}
-use Rattle.coefficients.specs.Request.{planOf, tooFewSlots, judged, built, builtOf, startsOf, sizesOf}
-use Rattle.coefficients.proofs.LineLaws.{or-zero-done}
-use Rattle.coefficients.proofs.PlanLaws.{plan-sound}
-use Rattle.coefficients.proofs.WindowLaws.{window-fits}
+use Rattle.plans.specs.Plan.{centre}
+use Rattle.plan_windows.specs.Lines.{rangeStart, rangeStop, lead, size, blank, firstBlank, orZero}
+use Rattle.plans.specs.Plan.{planOf}
+use Rattle.coefficients.specs.Request.{tooFewSlots, judged, built, builtOf, startsOf, sizesOf}
+use Rattle.plan_windows.proofs.LineLaws.{or-zero-done}
+use Rattle.plans.proofs.PlanLaws.{plan-sound}
+use Rattle.plan_windows.proofs.WindowLaws.{window-fits}
 
 -- a range never holds more lines than the window size, for every request that is not refused
 pub range-within-window : (q : Request) (p : Plan) → planOf q ≡ Ready p → (i : ℕ) → i < p .output → rangeStop p i - rangeStart p i ≤ p .window

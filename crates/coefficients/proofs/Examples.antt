@@ -13,13 +13,15 @@ use Rattle.filters.specs.declared.FilterType.{FilterType}
 use Rattle.filters.specs.declared.FilterType.the-variants.{Box, Bilinear, CatmullRom}
 use Rattle.filters.specs.Filters.{supportOf, boxOf, bilinearOf, catmullRomOf, valueOf}
 use Rattle.floats.specs.Doubles.{zero64, one64, half64}
-use Rattle.coefficients.specs.declared.Axis.the-variants.{Across}
-use Rattle.coefficients.specs.declared.Request.{Request}
+use Rattle.plans.specs.declared.Axis.the-variants.{Across}
+use Rattle.plans.specs.declared.Request.{Request}
 use Rattle.coefficients.specs.declared.Built.the-variants.{Done, Blank}
 use Rattle.coefficients.specs.Answer.{numberOf}
-use Rattle.coefficients.specs.Weights.{lineWeight, leadOf, totalOf, sizeOf}
-use Rattle.coefficients.specs.Lines.{centre, lead, held, total, size, slot, firstBlank, orZero}
-use Rattle.coefficients.specs.Request.{edgeOf, scaleOf, filterScaleOf, radiusOf, scaled, afterCrop, planOf, judged, builtOf, weightsOf, startsOf, sizesOf}
+use Rattle.line_weights.specs.Weights.{lineWeight, leadOf, totalOf, sizeOf}
+use Rattle.plans.specs.Plan.{centre}
+use Rattle.plan_windows.specs.Lines.{lead, held, total, size, slot, firstBlank, orZero}
+use Rattle.plans.specs.Plan.{edgeOf, scaleOf, filterScaleOf, radiusOf, scaled, afterCrop, planOf}
+use Rattle.coefficients.specs.Request.{judged, builtOf, weightsOf, startsOf, sizesOf}
 
 -- a square of n lines, cropped across from left on, adapting
 abbrev asked : FilterType → ℕ → ℕ → Float → Float → Request

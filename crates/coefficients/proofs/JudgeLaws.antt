@@ -10,14 +10,15 @@ use borrow.Author.Tests.{lt-ltb, le-ltb}
 use Rattle.lists.proofs.FirstLaws.{first-le}
 use Rattle.refusal.specs.declared.Refusal.{Refusal}
 use Rattle.refusal.specs.declared.Refusal.the-variants.{TooFewSlots}
-use Rattle.coefficients.specs.declared.Request.{Request}
-use Rattle.coefficients.specs.declared.Plan.{Plan}
-use Rattle.coefficients.specs.declared.Planned.the-variants.{Ready, Refused}
+use Rattle.plans.specs.declared.Request.{Request}
+use Rattle.plans.specs.declared.Plan.{Plan}
+use Rattle.plans.specs.declared.Planned.the-variants.{Ready, Refused}
 use Rattle.coefficients.specs.declared.Built.{Built}
 use Rattle.coefficients.specs.declared.Built.the-variants.{Done, Blank, Refused as BuildRefused}
-use Rattle.coefficients.specs.Lines.{blank, firstBlank, weightsIn, startsIn, sizesIn}
-use Rattle.coefficients.specs.Request.{planOf, tooFewSlots, judged, built, builtOf, weightsOf, startsOf, sizesOf}
-use Rattle.coefficients.proofs.LineLaws.{or-zero-blank, or-zero-done}
+use Rattle.plan_windows.specs.Lines.{blank, firstBlank, weightsIn, startsIn, sizesIn}
+use Rattle.plans.specs.Plan.{planOf}
+use Rattle.coefficients.specs.Request.{tooFewSlots, judged, built, builtOf, weightsOf, startsOf, sizesOf}
+use Rattle.plan_windows.proofs.LineLaws.{or-zero-blank, or-zero-done}
 
 -- ---- too few slots, starts or sizes
 module _ (p : Plan) (a b c : ℕ) where

@@ -1,12 +1,5 @@
-pub mod WeightLaws
-pub mod LineLaws
-pub mod WindowLaws
-pub mod Bounds
-pub mod CropLaws
-pub mod PlanLaws
 pub mod JudgeLaws
 pub mod BuiltLaws
 pub mod Examples
 pub mod Sure
-pub mod BlankLaws
 pub mod Rows

@@ -9,12 +9,13 @@ use Rattle.lists.specs.Ladder.{Exactly, given, Due}
 use Rattle.lists.specs.Ranges.{badSides}
 use Rattle.lists.proofs.LadderLaws.{exactly-due}
 use Rattle.crop_box.specs.Crop.{notFinite, negativeExtent, startOutside, endOutside, cropOf}
-use Rattle.coefficients.specs.declared.Edge.{Edge}
-use Rattle.coefficients.specs.declared.Plan.{Plan}
-use Rattle.coefficients.specs.declared.Request.{Request}
+use Rattle.plans.specs.declared.Edge.{Edge}
+use Rattle.plans.specs.declared.Plan.{Plan}
+use Rattle.plans.specs.declared.Request.{Request}
 use Rattle.coefficients.specs.Answer.{numberOf}
-use Rattle.coefficients.specs.Lines.{firstBlank, orZero}
-use Rattle.coefficients.specs.Request.{edgeOf, planFor, badOutput, noScale, tooFewSlots, scaled, afterCrop, planOf, judged, builtOf}
+use Rattle.plan_windows.specs.Lines.{firstBlank, orZero}
+use Rattle.plans.specs.Plan.{edgeOf, planFor, badOutput, noScale, scaled, afterCrop, planOf}
+use Rattle.coefficients.specs.Request.{tooFewSlots, judged, builtOf}
 
 module _ (q : Request) (weights starts sizes : ℕ) where
   -- the crop along the axis, and the plan of the windows

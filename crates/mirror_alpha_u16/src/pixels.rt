@@ -1,6 +1,6 @@
 // u16x4 alpha, in two lists or in place: 0 or No. 10.
 ghost use mathlib.Core.Path.{_≡_};
-ghost use Rattle.alpha.specs.Lists.{appliedTo, numberOf};
+ghost use Rattle.pixel_lists.specs.Lists.{appliedTo, numberOf};
 ghost use Rattle.alpha_u16.specs.Lists.{multipliedList, dividedList};
 
 // Every pixel of src, its colours multiplied by its alpha, in dst.

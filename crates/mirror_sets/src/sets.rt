@@ -9,8 +9,8 @@ use crate::answers::blank_line;
 use crate::answers::built_window;
 use codes::axis_named;
 use codes::filter_named;
-use coefficients::Request;
 use crop_box::CropBox;
+use plans::Request;
 
 // The weight set of a request in the three lists, its window size in `window`; for No. 8 the first blank display line in `line`.
 #[no_mangle]

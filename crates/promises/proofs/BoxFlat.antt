@@ -8,7 +8,7 @@ use lib.Ieee.{Float}
 use lib.ListN.{length}
 use Rattle.lists.specs.Tab.{tab}
 use Rattle.windows.specs.Set.{windows}
-use Rattle.coefficients.specs.declared.Request.{Request}
+use Rattle.plans.specs.declared.Request.{Request}
 use Rattle.coefficients.specs.declared.Built.the-variants.{Done}
 use Rattle.coefficients.specs.Answer.{windowOf}
 use Rattle.coefficients.specs.Request.{builtOf}

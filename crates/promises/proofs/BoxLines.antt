@@ -13,12 +13,13 @@ use Rattle.floats.proofs.Integers.{int, int-value, within-div-int, int-within}
 use Rattle.filters.specs.declared.FilterType.{FilterType}
 use Rattle.filters.specs.declared.FilterType.the-variants.{Box}
 use Rattle.floats.specs.Doubles.{zero64, half64, _over_}
-use Rattle.coefficients.specs.declared.Plan.{Plan}
-use Rattle.coefficients.specs.Weights.{weighs, weighsFrom, weightFrom, totalOf, sizeOf, upTo}
-use Rattle.coefficients.specs.Inner.{Sound}
-use Rattle.coefficients.specs.Lines.{centre, middle, lead, held, total, size, slot, blank}
-use Rattle.coefficients.proofs.WeightLaws.{up-le}
-use Rattle.coefficients.proofs.WindowLaws.{Fits, window-fits, lead-weighs, held-def, stop-side}
+use Rattle.plans.specs.declared.Plan.{Plan}
+use Rattle.line_weights.specs.Weights.{weighs, weighsFrom, weightFrom, totalOf, sizeOf, upTo}
+use Rattle.plans.specs.Inner.{Sound}
+use Rattle.plans.specs.Plan.{centre}
+use Rattle.plan_windows.specs.Lines.{middle, lead, held, total, size, slot, blank}
+use Rattle.line_weights.proofs.WeightLaws.{up-le}
+use Rattle.plan_windows.proofs.WindowLaws.{Fits, window-fits, lead-weighs, held-def, stop-side}
 use Rattle.promises.proofs.Box.{weight}
 use Rattle.floats.proofs.AtMost.{within-at, sub-at}
 use Rattle.promises.proofs.BoxWindow.{none, one, one-weight, no-weight, total-is}

@@ -14,11 +14,11 @@ use Rattle.floats.proofs.Within.{within-value, round-within}
 use Rattle.floats.proofs.Integers.{int-value}
 use Rattle.floats.proofs.Value.{lt-values, div-values}
 use Rattle.floats.specs.Doubles.{one64, _over_}
-use Rattle.coefficients.specs.declared.Request.{Request}
-use Rattle.coefficients.specs.declared.Planned.the-variants.{Ready}
-use Rattle.coefficients.specs.declared.Plan.{Plan}
-use Rattle.coefficients.specs.Request.{edgeOf, scaleOf, filterScaleOf, planOf}
-use Rattle.coefficients.proofs.PlanLaws.{plan-by}
+use Rattle.plans.specs.declared.Request.{Request}
+use Rattle.plans.specs.declared.Planned.the-variants.{Ready}
+use Rattle.plans.specs.declared.Plan.{Plan}
+use Rattle.plans.specs.Plan.{edgeOf, scaleOf, filterScaleOf, planOf}
+use Rattle.plans.proofs.PlanLaws.{plan-by}
 use Rattle.promises.proofs.BoxWindow.{one}
 
 -- one over a scale that is above 1

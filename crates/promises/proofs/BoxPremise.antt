@@ -37,10 +37,10 @@ use Rattle.normalizer.specs.Precision.{power, scaled, integer}
 use Rattle.normalizer.specs.Answer.{holds, leaves, normalizedOf, slotAt, writtenBy, writtenOf}
 use Rattle.normalizer.proofs.Judged.{Ready, ready}
 use Rattle.filters.specs.declared.FilterType.the-variants.{Box}
-use Rattle.coefficients.specs.declared.Request.{Request}
+use Rattle.plans.specs.declared.Request.{Request}
 use Rattle.coefficients.specs.declared.Built.the-variants.{Done as Built}
 use Rattle.coefficients.specs.Request.{builtOf}
-use Rattle.coefficients.specs.Lines.{size}
+use Rattle.plan_windows.specs.Lines.{size}
 use Rattle.promises.specs.FlatFrames.{NearOne}
 use Rattle.promises.specs.BoxKeepsFlat.{builtSet, storedSet}
 use Rattle.promises.proofs.Box.{weight, box, scaled as product}

@@ -16,15 +16,15 @@ use Rattle.lists.proofs.TabLaws.{front-below, length-front, grid-at}
 use Rattle.lists.proofs.BoolLaws.{or-left, or-right}
 use Rattle.floats.specs.Within.{Within}
 use Rattle.filters.specs.declared.FilterType.the-variants.{Box}
-use Rattle.coefficients.specs.declared.Request.{Request}
-use Rattle.coefficients.specs.declared.Plan.{Plan}
+use Rattle.plans.specs.declared.Request.{Request}
+use Rattle.plans.specs.declared.Plan.{Plan}
 use Rattle.coefficients.specs.declared.Built.the-variants.{Done}
-use Rattle.coefficients.specs.Inner.{Sound}
-use Rattle.coefficients.specs.Lines.{slots, lead, size, slot, blank}
+use Rattle.plans.specs.Inner.{Sound}
+use Rattle.plan_windows.specs.Lines.{slots, lead, size, slot, blank}
 use Rattle.coefficients.specs.Request.{judged, builtOf, weightsOf, startsOf, sizesOf}
-use Rattle.coefficients.proofs.LineLaws.{or-zero-done}
-use Rattle.coefficients.proofs.PlanLaws.{plan-sound}
-use Rattle.coefficients.proofs.WindowLaws.{window-fits}
+use Rattle.plan_windows.proofs.LineLaws.{or-zero-done}
+use Rattle.plans.proofs.PlanLaws.{plan-sound}
+use Rattle.plan_windows.proofs.WindowLaws.{window-fits}
 use Rattle.coefficients.proofs.BuiltLaws.{DoneSet, done-set, done-lines}
 use Rattle.vertical.proofs.Columns.{some-column}
 use Rattle.promises.proofs.Box.{weight}

@@ -18,9 +18,9 @@ use Rattle.floats.proofs.Monotone.{mul-mono-right, int-sub-mono, round-mono-sig
 use Rattle.filters.specs.declared.FilterType.the-variants.{Box}
 use Rattle.floats.specs.Doubles.{zero64, one64, _plus_}
 use Rattle.filters.specs.Filters.{valueOf, boxOf}
-use Rattle.coefficients.specs.Weights.{lineWeight, weighs, weighsFrom, weightFrom, addTo, totalOf, upTo}
-use Rattle.coefficients.proofs.WeightLaws.{up-le, up-last, up-past}
-use Rattle.coefficients.proofs.WindowLaws.{up-pos}
+use Rattle.line_weights.specs.Weights.{lineWeight, weighs, weighsFrom, weightFrom, addTo, totalOf, upTo}
+use Rattle.line_weights.proofs.WeightLaws.{up-le, up-last, up-past}
+use Rattle.plan_windows.proofs.WindowLaws.{up-pos}
 use Rattle.promises.proofs.BoxFilter.{inBox, between, arg}
 use Rattle.floats.proofs.AtMost.{finite-at, within-at, round-at, mul-at, sub-at}
 use denote.Floats.{passes, is-true}

@@ -12,8 +12,9 @@ use lib.ListN.{length}
 use Rattle.lists.specs.Ranges.{badSides}
 use Rattle.refusal.specs.declared.Refusal.the-variants.{BadSide, NotFinite, NegativeExtent, StartOutside, EndOutside, NoScale, TooFewSlots, DoesNotFit, NoRoom}
 use Rattle.refusal.specs.Refusal.{numberOf}
-use Rattle.alpha.specs.Lists.{badLists, multipliedList, dividedList, numberOf as numberOfApplied}
-use Rattle.alpha.specs.declared.Applied.the-variants as applied
+use Rattle.pixel_lists.specs.Lists.{badLists, numberOf as numberOfApplied}
+use Rattle.alpha.specs.Lists.{multipliedList, dividedList}
+use Rattle.pixel_lists.specs.declared.Applied.the-variants as applied
 use Rattle.alpha_u16.specs.Lists.{multipliedList as multipliedList16, dividedList as dividedList16}
 use Rattle.filters.specs.declared.FilterType.{FilterType}
 use Rattle.crop_box.specs.declared.Cropped.the-variants.{Inside, Refused as CropRefused}
@@ -21,15 +22,16 @@ use Rattle.crop_box.specs.Crop.{notFinite, negativeExtent, startOutside, endOut
 use Rattle.windows.specs.declared.Store.{Store}
 use Rattle.windows.specs.Set.{Set, windows}
 use Rattle.windows.specs.Fit.{badStored}
-use Rattle.coefficients.specs.declared.Edge.{Edge}
-use Rattle.coefficients.specs.declared.Request.{Request}
-use Rattle.coefficients.specs.declared.Plan.{Plan}
-use Rattle.coefficients.specs.declared.Planned.{Planned}
-use Rattle.coefficients.specs.declared.Planned.the-variants as planned
+use Rattle.plans.specs.declared.Edge.{Edge}
+use Rattle.plans.specs.declared.Request.{Request}
+use Rattle.plans.specs.declared.Plan.{Plan}
+use Rattle.plans.specs.declared.Planned.{Planned}
+use Rattle.plans.specs.declared.Planned.the-variants as planned
 use Rattle.coefficients.specs.declared.Built.the-variants as built
 use Rattle.coefficients.specs.Answer.{numberOf as numberOfBuilt}
-use Rattle.coefficients.specs.Lines.{firstBlank, orZero, weightsIn, startsIn, sizesIn}
-use Rattle.coefficients.specs.Request.{badOutput, noScale, tooFewSlots, edgeOf, planFor, scaled, afterCrop, planOf, judged, kept, built as builtBy}
+use Rattle.plan_windows.specs.Lines.{firstBlank, orZero, weightsIn, startsIn, sizesIn}
+use Rattle.plans.specs.Plan.{badOutput, noScale, edgeOf, planFor, scaled, afterCrop, planOf}
+use Rattle.coefficients.specs.Request.{tooFewSlots, judged, kept, built as builtBy}
 use Rattle.normalizer.specs.declared.Normalized.{Normalized}
 use Rattle.normalizer.specs.declared.Normalized.the-variants as normalized
 use Rattle.normalizer.specs.Answer.{normalizedOf, writtenBy, writtenOf, numberOf as numberOfNormalized}

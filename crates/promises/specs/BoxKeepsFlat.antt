@@ -11,7 +11,7 @@ use Rattle.lists.specs.Tab.{tab}
 use Rattle.filters.specs.declared.FilterType.the-variants.{Box}
 use Rattle.windows.specs.Set.{layoutOf, Set, setOf, Stored, storedOf, windows}
 use Rattle.windows.specs.Store.{store32}
-use Rattle.coefficients.specs.declared.Request.{Request}
+use Rattle.plans.specs.declared.Request.{Request}
 use Rattle.coefficients.specs.declared.Built.{Built}
 use Rattle.coefficients.specs.Answer.{numberOf as numberOfBuilt, windowOf}
 use Rattle.coefficients.specs.Request.{builtOf, weightsOf, startsOf, sizesOf}

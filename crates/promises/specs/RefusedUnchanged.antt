@@ -8,17 +8,19 @@ use lib.IntN.{ℤ}
 use lib.Ieee.{Float}
 use lib.ListN.{length}
 use Rattle.lists.specs.Tab.{front}
-use Rattle.alpha.specs.Lists.{appliedTo, multipliedList, dividedList, numberOf as numberOfApplied}
+use Rattle.pixel_lists.specs.Lists.{appliedTo, numberOf as numberOfApplied}
+use Rattle.alpha.specs.Lists.{multipliedList, dividedList}
 use Rattle.alpha_u16.specs.Lists.{multipliedList as multipliedList16, dividedList as dividedList16}
 use Rattle.filters.specs.declared.FilterType.{FilterType}
 use Rattle.windows.specs.declared.Store.{Store}
 use Rattle.windows.specs.Set.{Set, Stored}
-use Rattle.coefficients.specs.declared.Request.{Request}
-use Rattle.coefficients.specs.declared.Plan.{Plan}
-use Rattle.coefficients.specs.declared.Planned.the-variants.{Ready}
+use Rattle.plans.specs.declared.Request.{Request}
+use Rattle.plans.specs.declared.Plan.{Plan}
+use Rattle.plans.specs.declared.Planned.the-variants.{Ready}
 use Rattle.coefficients.specs.Answer.{numberOf as numberOfBuilt}
-use Rattle.coefficients.specs.Lines.{slots, zeroWeight, zeroLine}
-use Rattle.coefficients.specs.Request.{planOf, builtOf, weightsOf, startsOf, sizesOf}
+use Rattle.plan_windows.specs.Lines.{slots, zeroWeight, zeroLine}
+use Rattle.plans.specs.Plan.{planOf}
+use Rattle.coefficients.specs.Request.{builtOf, weightsOf, startsOf, sizesOf}
 use Rattle.normalizer.specs.Answer.{normalizedOf, numberOf as numberOfNormalized, writtenOf}
 use Rattle.vertical.specs.Passed.{numberOf as numberOfPassed}
 use Rattle.vertical.specs.PassedF32.{numberOf as numberOfPassedF32}

@@ -8,7 +8,7 @@ use lib.Ieee.{Float, fin, binary64}
 use Rattle.floats.specs.Doubles.{double, _over_}
 use Rattle.integers.specs.Sums.{sum}
 use Rattle.numbers.specs.Whole.{roundAway, narrow}
-use Rattle.alpha.specs.Alpha.{multiplied, divided}
+use Rattle.colours.specs.Alpha.{multiplied, divided}
 use Rattle.windows.specs.Store.{store16, store32}
 use Rattle.normalizer.specs.Precision.{precision, integer}
 use Rattle.vertical.specs.Example.{pass4, sharp, even}

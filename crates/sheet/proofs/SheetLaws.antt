@@ -21,7 +21,7 @@ use Rattle.windows.specs.Set.{Stored, windows}
 use Rattle.windows.specs.Store.{weightBits}
 use Rattle.windows.specs.Fit.{Fits}
 use Rattle.sheet.specs.Keys.{keyIn, keyOut, keyWindow, keyStore, keyPrecision, keyLine, equals, comma, newline, kindName}
-use Rattle.sheet.specs.Text.{kindText, sidesText, storeText, headText, itemText, itemAt, weightsText, openText, windowAt, windowsText, sheetText}
+use Rattle.sheet.specs.Text.{lent, kindText, sidesText, storeText, headText, itemText, itemAt, weightsText, openText, windowAt, windowsText, sheetText}
 
 name-small : (kind : FilterType) → length (kindName kind) ≤ 10
 unfolding kindName
@@ -78,6 +78,11 @@ sheet-counted kind store s p = reached-whole (length (sheetText kind store s)) (
 -- a weight read from a list of either width and widened is itself
 pub wide-back : (w : Width) (x : ℤ) → SFits w x → SFits w64 x → toZ w64 (ofZ w64 (toZ w (ofZ w x))) ≡ x
 wide-back w x f g = ap (λ (z : ℤ). toZ w64 (ofZ w64 z)) (toZ-ofZ f) ∙ toZ-ofZ g
+
+-- the list that is lent is no longer than a list can be
+pub lent-long : (wide : Bool) (short long : List ℤ) → length short < 2 ^ 64 → length long < 2 ^ 64 → length (lent wide short long) < 2 ^ 64
+lent-long true short long s l = l
+lent-long false short long s l = s
 
 -- a window's line more: its beginning, its weights and a newline, one after the other
 pub line-more : (starts sizes : List ℕ) (window : ℕ) (ws : List ℤ) (i from : ℕ) {at p a b q : ℕ} {old now o1 o2 new : List ℕ} → from ≡ i * window → Laid at (joined (windowAt starts sizes window ws) i) old p now → a ≡ reached p (length (openText i (getD starts i 0) (getD sizes i 0))) → o1 ≡ laid now p (openText i (getD starts i 0) (getD sizes i 0)) → b ≡ reached a (length (weightsText ws from (getD sizes i 0))) → o2 ≡ laid o1 a (weightsText ws from (getD sizes i 0)) → q ≡ reached b 1 → new ≡ set o2 b 10 → Laid at (joined (windowAt starts sizes window ws) (i + 1)) old q new

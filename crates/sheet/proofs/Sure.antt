@@ -2,10 +2,10 @@
 use mathlib.Core.Path.{_≡_, _∙_, sym}
 use denote.Ref.{now}
 use Rattle.lists.proofs.Sure.{Decides, DecidesResult}
-use Rattle.sheet.proofs.store16.write_sheet16.Kinds as write-sheet16
-use Rattle.sheet.proofs.store16.write_sheet16.Reads as write-sheet16-reads
-use Rattle.sheet.proofs.store32.write_sheet32.Kinds as write-sheet32
-use Rattle.sheet.proofs.store32.write_sheet32.Reads as write-sheet32-reads
+use Rattle.sheet.proofs.write_sheet16.Kinds as write-sheet16
+use Rattle.sheet.proofs.write_sheet16.Reads as write-sheet16-reads
+use Rattle.sheet.proofs.write_sheet32.Kinds as write-sheet32
+use Rattle.sheet.proofs.write_sheet32.Reads as write-sheet32-reads
 use Rattle.sheet.proofs.Sheet.number.Kinds as number
 use Rattle.sheet.proofs.Sheet.number.Reads as number-reads
 

@@ -1,6 +1,6 @@
 -- The text of a sheet: six head lines, then one line for each window, a newline after each. Cited by the writers and by the parts that write it.
 -- Definitions only. Assumes nothing.
-use mathlib.Core.Bool.{cond}
+use mathlib.Core.Bool.{Bool, cond}
 use mathlib.Core.List.{List, [], _++_}
 use Prim.Native.Nat.{ℕ, _+_, _*_}
 use lib.Dec.{eqb}
@@ -12,6 +12,10 @@ use Rattle.windows.specs.declared.Store.{Store}
 use Rattle.windows.specs.Set.{Stored, windows}
 use Rattle.windows.specs.Store.{weightBits}
 use Rattle.sheet.specs.Keys.{newline, keyKind, keyIn, keyOut, keyWindow, keyStore, keyPrecision, keyLine, equals, comma, colon, kindName}
+
+-- the list that a set's weights are lent in: of the 32-bit store where `wide`, else of the 16-bit one
+abbrev pub lent : Bool → List ℤ → List ℤ → List ℤ
+lent wide short long = cond wide long short
 
 -- the filter's line
 unfoldable pub kindText : FilterType → List ℕ

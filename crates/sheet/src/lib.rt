@@ -1,20 +1,88 @@
 // `sheet`: a weight set written as text, key=value lines that a line engineer can read. `write_sheet16` and `write_sheet32` judge the set
 // and the room, then lay `sheetText` over the beginning of the lent list. The text's length comes from the same run over a list of one byte,
-// since what falls past a list's end is not written and counted all the same.
+// since what falls past a list's end is not written and counted all the same. Both stores are one function over two lists, of which a store has one.
 mod answer;
 pub mod keys;
-mod lines16;
-mod lines32;
+mod lines;
 mod parts;
-mod store16;
-mod store32;
+mod writer;
 
+use filters::FilterType;
 use refusal::Refusal;
-pub use store16::write_sheet16;
-pub use store32::write_sheet32;
+use windows::STORE16;
+use windows::STORE32;
+use writer::write;
+ghost use mathlib.Core.Path.{_≡_};
+ghost use lib.ListN.{length};
+ghost use Rattle.windows.specs.Set.{layoutOf, setOf, storedOf};
+ghost use Rattle.windows.specs.Store.{store16, store32};
+ghost use Rattle.sheet.specs.Answer.{answerOf, writtenOf};
 
 // The answer: how many bytes were written, or why none was.
 pub enum Sheet {
     Written(u64),
     Refused(Refusal),
+}
+
+// lent in place of the list that a store has not
+const NO_SHORT: [i16; 1] = [0];
+
+const NO_LONG: [i32; 1] = [0];
+
+// The sheet of a set with weights of 16 bits, or nothing, for any numbers and lists.
+pub fn write_sheet16(
+    kind: FilterType,
+    lines: u32,
+    window_size: u32,
+    precision: u32,
+    weights: &[i16],
+    starts: &[u32],
+    sizes: &[u32],
+    out: &mut [u8],
+) -> Sheet
+    ensures answer { λ r. ⌜ r ≡ answerOf kind store16 (storedOf (setOf (layoutOf lines «window_size» (now (starts .entry)) (now (sizes .entry))) (now (weights .entry))) precision) (length (now (out .entry))) ⌝ }
+    ensures written { λ _. ⌜ now (out .exit) ≡ writtenOf kind store16 (storedOf (setOf (layoutOf lines «window_size» (now (starts .entry)) (now (sizes .entry))) (now (weights .entry))) precision) (now (out .entry)) ⌝ }
+{
+    write(
+        kind,
+        STORE16,
+        lines,
+        window_size,
+        precision,
+        false,
+        weights,
+        &NO_LONG,
+        starts,
+        sizes,
+        out,
+    )
+}
+
+// The sheet of a set with weights of 32 bits, or nothing, for any numbers and lists.
+pub fn write_sheet32(
+    kind: FilterType,
+    lines: u32,
+    window_size: u32,
+    precision: u32,
+    weights: &[i32],
+    starts: &[u32],
+    sizes: &[u32],
+    out: &mut [u8],
+) -> Sheet
+    ensures answer { λ r. ⌜ r ≡ answerOf kind store32 (storedOf (setOf (layoutOf lines «window_size» (now (starts .entry)) (now (sizes .entry))) (now (weights .entry))) precision) (length (now (out .entry))) ⌝ }
+    ensures written { λ _. ⌜ now (out .exit) ≡ writtenOf kind store32 (storedOf (setOf (layoutOf lines «window_size» (now (starts .entry)) (now (sizes .entry))) (now (weights .entry))) precision) (now (out .entry)) ⌝ }
+{
+    write(
+        kind,
+        STORE32,
+        lines,
+        window_size,
+        precision,
+        true,
+        &NO_SHORT,
+        weights,
+        starts,
+        sizes,
+        out,
+    )
 }

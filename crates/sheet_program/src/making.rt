@@ -6,10 +6,10 @@ use crate::refused::blank;
 use crate::refused::refused;
 use crate::stores::sheet16;
 use crate::stores::sheet32;
-use coefficients::Axis;
 use coefficients::Built;
-use coefficients::Request;
 use crop_box::CropBox;
+use plans::Axis;
+use plans::Request;
 
 // The request: an image one column wide, built down its side.
 fn request(asked: Asked) -> Request {

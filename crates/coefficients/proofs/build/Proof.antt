@@ -5,12 +5,12 @@ use Prim.Native.Nat.{_*_, _≤_}
 use native.Mathlib.Nat.{mul-le-mul}
 use native.Mathlib.Omega.{arith}
 use lib.ListN.{length}
-use Rattle.coefficients.specs.declared.Planned.the-variants.{Ready, Refused}
-use Rattle.coefficients.specs.Request.{planOf}
+use Rattle.plans.specs.declared.Planned.the-variants.{Ready, Refused}
+use Rattle.plans.specs.Plan.{planOf}
 use Rattle.refusal.specs.declared.Refusal.the-variants.{NoScale}
-use Rattle.coefficients.specs.declared.Planned.{Planned}
-use Rattle.coefficients.specs.Inner.{plannedRefusal}
-use Rattle.coefficients.proofs.PlanLaws.{plan-sound}
+use Rattle.plans.specs.declared.Planned.{Planned}
+use Rattle.plans.specs.Inner.{plannedRefusal}
+use Rattle.plans.proofs.PlanLaws.{plan-sound}
 use Rattle.coefficients.proofs.JudgeLaws.{all-refused, all-short, all-ready, short-slots, short-starts, short-sizes, enough, built-blank, built-done}
 use borrow.Author.Needs.{needs}
 use Rattle.coefficients.proofs.build.Statement.{statement}

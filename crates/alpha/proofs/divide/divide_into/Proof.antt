@@ -4,10 +4,10 @@ use native.Mathlib.Omega.{arith}
 use lib.ListN.{length, getD}
 use borrow.Author.Needs.{needs}
 use Rattle.lists.proofs.TabLaws.{Written, written-none}
-use Rattle.alpha.specs.Lists.{componentAt}
-use Rattle.alpha.specs.Alpha.{divided}
-use Rattle.alpha.proofs.Colours.{divided-byte}
-use Rattle.alpha.proofs.PixelLaws.{pixels-all}
+use Rattle.pixel_lists.specs.Lists.{componentAt}
+use Rattle.colours.specs.Alpha.{divided}
+use Rattle.colours.proofs.Colours.{divided-byte}
+use Rattle.pixel_lists.proofs.PixelLaws.{pixels-all}
 use Rattle.alpha.proofs.WordLaws.{divided-word, word-more}
 use Rattle.alpha.proofs.divide.divide_into.Statement.{statement}
 use Rattle.alpha.proofs.divide.divide_into.Tie as tie

@@ -7,8 +7,8 @@ use native.Mathlib.Omega.{arith}
 use lib.ListN.{getD}
 use borrow.Author.Needs.{needs}
 use Rattle.lists.proofs.TabLaws.{getD-tab}
-use Rattle.alpha.specs.Alpha.{reciprocal}
-use Rattle.alpha.proofs.Colours.{reciprocal-small}
+use Rattle.colours.specs.Alpha.{reciprocal}
+use Rattle.colours.proofs.Colours.{reciprocal-small}
 use Rattle.alpha.proofs.divide.reciprocal_of.Statement.{statement}
 use Rattle.alpha.proofs.divide.reciprocal_of.Tie as tie
 

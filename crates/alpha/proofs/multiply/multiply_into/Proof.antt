@@ -5,10 +5,10 @@ use native.Mathlib.Omega.{arith}
 use lib.ListN.{length, getD}
 use borrow.Author.Needs.{needs}
 use Rattle.lists.proofs.TabLaws.{Written, written-none}
-use Rattle.alpha.specs.Alpha.{multiplied}
-use Rattle.alpha.specs.Lists.{componentAt}
-use Rattle.alpha.proofs.Colours.{multiplied-byte}
-use Rattle.alpha.proofs.PixelLaws.{pixels-all}
+use Rattle.colours.specs.Alpha.{multiplied}
+use Rattle.pixel_lists.specs.Lists.{componentAt}
+use Rattle.colours.proofs.Colours.{multiplied-byte}
+use Rattle.pixel_lists.proofs.PixelLaws.{pixels-all}
 use Rattle.alpha.proofs.WordLaws.{multiplied-word, word-more}
 use Rattle.alpha.proofs.multiply.multiply_into.Statement.{statement}
 use Rattle.alpha.proofs.multiply.multiply_into.Tie as tie

@@ -4,7 +4,7 @@ use mathlib.Core.Path.{_∙_, refl, sym}
 use lib.ListN.{length}
 use borrow.Author.Needs.{needs}
 use Rattle.alpha.specs.Lists.{multipliedList}
-use Rattle.alpha.proofs.PixelLaws.{lists-fit}
+use Rattle.pixel_lists.proofs.PixelLaws.{lists-fit}
 use Rattle.alpha.proofs.u8x4.multiply_alpha_inplace.Statement.{statement}
 use Rattle.alpha.proofs.u8x4.multiply_alpha_inplace.Tie as tie
 

@@ -4,9 +4,9 @@ use Prim.Native.Nat.{_*_, _-_, _≤_}
 use native.Mathlib.Omega.{arith}
 use lib.ListN.{length}
 use Rattle.lists.proofs.TabLaws.{Written, written-none}
-use Rattle.alpha.specs.Lists.{componentAt}
-use Rattle.alpha.proofs.PixelLaws.{pixels-all}
-use Rattle.alpha_u16.specs.Alpha.{divided}
+use Rattle.pixel_lists.specs.Lists.{componentAt}
+use Rattle.pixel_lists.proofs.PixelLaws.{pixels-all}
+use Rattle.colours_u16.specs.Alpha.{divided}
 use Rattle.alpha_u16.proofs.PixelLaws.{pixel-within}
 use Rattle.alpha_u16.proofs.divide.divide_within.Statement.{statement}
 use Rattle.alpha_u16.proofs.divide.divide_within.Tie as tie

@@ -2,7 +2,7 @@
 use mathlib.Core.Path.{_∙_, refl, sym}
 use lib.ListN.{length}
 use borrow.Author.Needs.{needs}
-use Rattle.alpha.proofs.PixelLaws.{lists-fit}
+use Rattle.pixel_lists.proofs.PixelLaws.{lists-fit}
 use Rattle.alpha_u16.specs.Lists.{dividedList}
 use Rattle.alpha_u16.proofs.u16x4.divide_alpha_inplace.Statement.{statement}
 use Rattle.alpha_u16.proofs.u16x4.divide_alpha_inplace.Tie as tie

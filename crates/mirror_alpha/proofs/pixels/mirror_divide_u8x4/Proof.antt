@@ -1,7 +1,7 @@
 -- `mirror_divide_u8x4`: the number of the library's answer, and its list. Assumes nothing.
 use mathlib.Core.Path.{_∙_, ap}
 use borrow.Author.Needs.{needs}
-use Rattle.alpha.specs.Lists.{numberOf}
+use Rattle.pixel_lists.specs.Lists.{numberOf}
 use Rattle.mirror_alpha.proofs.pixels.mirror_divide_u8x4.Statement.{statement}
 use Rattle.mirror_alpha.proofs.pixels.mirror_divide_u8x4.Tie as tie
 

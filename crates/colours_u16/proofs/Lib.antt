@@ -1,0 +1,4 @@
+pub mod Rule
+pub mod Near
+pub mod Colours
+pub mod Examples

@@ -1,0 +1,3 @@
+pub mod PixelLaws
+pub mod Rows
+pub mod Sure
