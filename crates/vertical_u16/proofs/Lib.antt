@@ -1,8 +1,3 @@
-pub mod ReadBack
-pub mod Sizes
-pub mod Exact
-pub mod Rounded
-pub mod Parts
 pub mod Values
 pub mod Judged
 pub mod Sure

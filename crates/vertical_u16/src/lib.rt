@@ -1,12 +1,6 @@
 // `vertical_u16`: the vertical pass over u16 samples with i32 weights, as `passedU16` and `writtenU16` of `vertical` say. Counterpart of vertical_u16/native.rs.
-// The judge answers before anything is written; `rows` then fills the output window by window, `columns` sixteen columns at a time, with sums in doubles up to 32
-// lines, which are exact there, and in integers beyond; the columns left over go one by one.
-mod arithmetic;
-mod columns;
-mod doubles;
-mod rounding;
+// The judge answers before anything is written; `rows` then fills the output window by window, each row by `row_u16::fill`.
 mod rows;
-mod sums;
 
 use refusal::Refusal;
 use rows::rows;

@@ -1,5 +1,5 @@
 // Every window's row, each in its place of the output.
-use super::columns::fill;
+use row_u16::fill;
 ghost use mathlib.Core.Path.{_≡_};
 ghost use Prim.Native.Nat.{_*_, _≤_};
 ghost use lib.ListN.{length};

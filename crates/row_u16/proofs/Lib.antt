@@ -1,0 +1,6 @@
+pub mod ReadBack
+pub mod Sizes
+pub mod Exact
+pub mod Rounded
+pub mod Parts
+pub mod Sure

@@ -1,0 +1,22 @@
+-- The shift rounds down, and the clip is that of `clips`. Assumes nothing.
+use mathlib.Core.Path.{_∙_, ap}
+use mir.Facts.{toZ-ofZ}
+use borrow.Author.Needs.{needs}
+use Rattle.integers.specs.Sums.{clipped}
+use Rattle.row_u16.proofs.ReadBack.{back}
+use Rattle.row_u16.proofs.arithmetic.clip.Statement.{statement}
+use Rattle.row_u16.proofs.arithmetic.clip.Tie as tie
+
+shift-requires : tie.Need-shift-requires
+shift-requires c κs = search needs
+
+clip16-requires : tie.Need-clip16-requires
+clip16-requires c κs = search needs
+
+returns : tie.Need-returns
+returns c =
+    let s = c .before .shift in
+    c .clip16 .ensures ∙ ap (clipped 65535) (back (s .ok) ∙ s .ensures ∙ rw (toZ-ofZ (c .before .before .fits .v)))
+
+pub clip-spec : {M : Type 1} → statement M
+clip-spec = tie.close (tie.spec shift-requires clip16-requires returns)

@@ -1,0 +1,75 @@
+-- After t turns the first t places hold their sample. Assumes nothing.
+use mathlib.Core.Path.{_≡_, refl, ap, _∙_}
+use Prim.Native.Nat.{ℕ, _-_, _≤_}
+use native.Mathlib.Omega.{arith}
+use borrow.Author.Needs.{needs}
+use lib.ListN.{length}
+use Rattle.lists.specs.Tab.{front}
+use Rattle.lists.proofs.TabLaws.{Written, written-none, written-more, front-whole}
+use Rattle.row_u16.proofs.columns.put_columns.Statement.{statement}
+use Rattle.row_u16.specs.Chunks.{clippedAt}
+use Rattle.row_u16.proofs.ReadBack.{back}
+use Rattle.row_u16.proofs.columns.put_columns.Tie as tie
+
+abbrev Inv-loop : tie.InvT-loop
+Inv-loop ss p out₀ t₀ out t = (t ≤ length out₀) × Written t (clippedAt ss p) out₀ out
+
+abbrev μ-loop : tie.MeasureT-loop
+μ-loop ss p out₀ t₀ out t = length out₀ - t
+
+loop-holds : tie.Need-loop-holds Inv-loop μ-loop
+loop-holds c = (omega arith, written-none)
+
+mul-clip : tie.Need-mul-clip Inv-loop μ-loop
+mul-clip c = search needs
+
+shared-slice-copy-out-clip : tie.Need-shared-slice-copy-out-clip Inv-loop μ-loop
+shared-slice-copy-out-clip c = search needs
+
+clip-requires : tie.Need-clip-requires Inv-loop μ-loop
+clip-requires c κs = search needs
+
+mul-out : tie.Need-mul-out Inv-loop μ-loop
+mul-out c = search needs
+
+slice-write-out : tie.Need-slice-write-out Inv-loop μ-loop
+slice-write-out c = search needs
+
+add-t : tie.Need-add-t Inv-loop μ-loop
+add-t c = search needs
+
+loop-less : tie.Need-loop-less Inv-loop μ-loop
+loop-less c = search needs
+
+loop-again : tie.Need-loop-again Inv-loop μ-loop
+loop-again c =
+    let l = c .before .before .before in
+    (search needs, written-more (l .loop .inv .1) (search needs) (c .clip .ensures ∙ rw (back (c .before .clip-arg .given)) refl))
+
+same-length : tie.Need-same-length Inv-loop μ-loop
+same-length c = search needs
+
+returns : tie.Need-returns Inv-loop μ-loop
+returns c =
+    let l = c .before in
+    let a = l .before .before .args in
+    let all : l .loop .t ≡ length (a .out .now) = omega (arith, l .loop .inv .1 .long) in
+    l .loop .inv .1 .is ∙ ap (λ (n : ℕ). front n (clippedAt (a .ss .now) (a .p)) (a .out .now)) all ∙ front-whole (clippedAt (a .ss .now) (a .p)) (a .out .now)
+
+pub put-columns-spec : {M : Type 1} → statement M
+put-columns-spec =
+    tie.close
+    (tie.spec
+    Inv-loop
+    μ-loop
+    loop-holds
+    mul-clip
+    shared-slice-copy-out-clip
+    clip-requires
+    mul-out
+    slice-write-out
+    add-t
+    loop-less
+    loop-again
+    same-length
+    returns)
