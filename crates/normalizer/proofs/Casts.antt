@@ -18,7 +18,7 @@ use Rattle.windows.specs.declared.Store.{Store}
 use Rattle.normalizer.specs.Precision.{power}
 use Rattle.normalizer.specs.Answer.{holds}
 
-both : (a b : Bool) → a && b ≡ true → T a × T b
+pub both : (a b : Bool) → a && b ≡ true → T a × T b
 both true true h = (tt, tt)
 both true false h = never (sym h)
 both false b h = never (sym h)
@@ -30,13 +30,13 @@ in-type true false h e = never h
 in-type false b h e = never (sym e)
 
 -- an infinity beside a number
-below-all : (y : Float) (t : Bool) (b d : ℕ) → HasValue y t b d → lt (inf true) y ≡ true
+pub below-all : (y : Float) (t : Bool) (b d : ℕ) → HasValue y t b d → lt (inf true) y ≡ true
 unfolding lt
 below-all nan t b d v = absurd v
 below-all (inf s) t b d v = absurd v
 below-all (fin s m e) t b d v = refl
 
-above-all : (y : Float) (t : Bool) (b d : ℕ) → HasValue y t b d → lt (inf false) y ≡ false
+pub above-all : (y : Float) (t : Bool) (b d : ℕ) → HasValue y t b d → lt (inf false) y ≡ false
 unfolding lt
 above-all nan t b d v = absurd v
 above-all (inf s) t b d v = absurd v

@@ -1,5 +1,6 @@
 pub mod Slots
 pub mod Casts
+pub mod Bounds
 pub mod Judged
 pub mod Largest
 pub mod Table

@@ -1,2 +1,3 @@
 pub mod Precision
 pub mod Answer
+pub mod Bounds

@@ -1,10 +1,12 @@
 // The judge of a set for either store.
 ghost use mathlib.Core.Path.{_≡_};
-ghost use Prim.Native.Nat.{_<_, _≤_, _*_};
+ghost use Prim.Native.Nat.{_-_, _^_, _<_, _≤_, _*_};
+ghost use lib.Ieee.{neg};
 ghost use lib.ListN.{length};
 ghost use Rattle.lists.specs.Tab.{any};
 ghost use Rattle.windows.specs.Set.{layoutOf, setOf, inUse};
-ghost use Rattle.normalizer.specs.Answer.{holds as holdsF, notFinite, unstorable as unstorableF, normalizedOf};
+ghost use Rattle.normalizer.specs.Answer.{holds as holdsF, notFinite, leaves, unstorable as unstorableF, normalizedOf};
+ghost use Rattle.normalizer.specs.Bounds.{andHalf, outside};
 use crate::Normalized;
 use crate::precision::power;
 use crate::precision::precision;
@@ -25,7 +27,7 @@ pub(crate) fn judge(
     sizes: &[u32],
     room: usize,
 ) -> Normalized
-    requires { ⌜ 1 ≤ store .bits ⌝ ∗ ⌜ store .bits ≤ 46 ⌝ ∗ ⌜ store .limit < 64 ⌝ }
+    requires { ⌜ 1 ≤ store .bits ⌝ ∗ ⌜ store .bits ≤ 46 ⌝ ∗ ⌜ store .limit ≤ 51 ⌝ }
     ensures { λ r. ⌜ r ≡ normalizedOf store (setOf (layoutOf lines «window_size» (now (starts .entry)) (now (sizes .entry))) (now (weights .entry))) room ⌝ }
 {
     if !sides_fit(lines, starts.len()) {
@@ -60,10 +62,57 @@ fn some_not_finite(weights: &[f64]) -> bool
     bad
 }
 
-// Whether the precision is below 4, or a weight in use leaves its type at it.
+// Whether the precision is below 4, or a weight in use leaves its type at it. Which slots are in use, and what their weights round to, is asked only where some
+// weight is not inside the type by comparison alone; in a built set none is outside.
 fn unstorable(store: Store, p: u32, window_size: u32, weights: &[f64], sizes: &[u32]) -> bool
-    requires { ⌜ store .limit < 64 ⌝ ∗ ⌜ p < 46 ⌝ ∗ ⌜ 0 < «window_size» ⌝ ∗ ⌜ length (now weights) ≡ length (now sizes) * «window_size» ⌝ }
+    requires { ⌜ store .limit ≤ 51 ⌝ ∗ ⌜ p < 46 ⌝ ∗ ⌜ 0 < «window_size» ⌝ ∗ ⌜ length (now weights) ≡ length (now sizes) * «window_size» ⌝ }
     ensures { λ r. ⌜ r ≡ unstorableF store p «window_size» (now (weights .entry)) (now (sizes .entry)) ⌝ }
+{
+    if p < 4 {
+        return true;
+    }
+    if !some_outside(least(store.limit), most(store.limit), power(p), weights) {
+        return false;
+    }
+    some_leaves(store, p, window_size, weights, sizes)
+}
+
+// -(2^limit + 1/2): what is above it rounds to -2^limit or more.
+fn least(limit: u32) -> f64
+    requires { ⌜ limit ≤ 51 ⌝ }
+    ensures { λ r. ⌜ r ≡ neg (andHalf (2 ^ limit)) ⌝ }
+{
+    -(power(limit) + 0.5)
+}
+
+// 2^limit - 1/2: what is below it rounds to 2^limit - 1 or less.
+fn most(limit: u32) -> f64
+    requires { ⌜ limit ≤ 51 ⌝ }
+    ensures { λ r. ⌜ r ≡ andHalf (2 ^ limit - 1) ⌝ }
+{
+    let one: u64 = 1;
+    let end = one << limit;
+    std::num::nearest_u64_to_f64(end - 1) + 0.5
+}
+
+// Whether a weight times `unit` is not between the bounds. Nothing is rounded and no slot is looked up, so that the compiler compares several weights at a time.
+fn some_outside(low: f64, high: f64, unit: f64, weights: &[f64]) -> bool
+    ensures { λ r. ⌜ r ≡ any (length (now (weights .entry))) (outside low high unit (now (weights .entry))) ⌝ }
+{
+    let mut bad = false;
+    let mut k: usize = 0;
+    while k < weights.len() {
+        let x = weights[k] * unit;
+        bad = bad | !((low < x) & (x < high));
+        k += 1;
+    }
+    bad
+}
+
+// Whether a weight in use leaves its type at the precision.
+fn some_leaves(store: Store, p: u32, window_size: u32, weights: &[f64], sizes: &[u32]) -> bool
+    requires { ⌜ store .limit < 64 ⌝ ∗ ⌜ p < 46 ⌝ ∗ ⌜ 0 < «window_size» ⌝ ∗ ⌜ length (now weights) ≡ length (now sizes) * «window_size» ⌝ }
+    ensures { λ r. ⌜ r ≡ any (length (now (weights .entry))) (leaves store p «window_size» (now (weights .entry)) (now (sizes .entry))) ⌝ }
 {
     let mut bad = false;
     let mut k: usize = 0;
@@ -71,7 +120,7 @@ fn unstorable(store: Store, p: u32, window_size: u32, weights: &[f64], sizes: &[
         bad = bad | (in_use(k, window_size, sizes) & !holds(store, scaled(weights[k], p)));
         k += 1;
     }
-    (p < 4) | bad
+    bad
 }
 
 // Whether slot k is in use.

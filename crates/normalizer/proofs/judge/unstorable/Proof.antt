@@ -1,66 +1,48 @@
--- `unstorable`: after k turns `bad` says whether one of the first k slots holds a weight in use that leaves its type. Assumes nothing.
+-- `unstorable`: where no weight is outside the bounds, none in use leaves its type (`none-leaves`). Assumes nothing.
+use mathlib.Core.Path.{refl}
+use borrow.Author.Tests.{lt-ltb, le-ltb}
+use borrow.Author.Needs.{needs}
+use Rattle.normalizer.proofs.Bounds.{none-leaves}
 use Rattle.normalizer.proofs.judge.unstorable.Statement.{statement}
 use Rattle.normalizer.proofs.judge.unstorable.Tie as tie
-use borrow.Author.Needs.{needs}
-use native.Mathlib.Omega.{arith}
-use mathlib.Core.Path.{_≡_, refl}
-use Prim.Native.Nat.{_≤_, _-_}
-use lib.ListN.{length}
-use native.Mathlib.Numerals.{add-one}
-use Rattle.lists.specs.Tab.{any}
-use Rattle.normalizer.specs.Answer.{leaves}
 
-abbrev Inv-loop : tie.InvT-loop
-Inv-loop store p windowSize weights sizes bad₀ k₀ bad k = (k ≤ length weights) × (bad ≡ any k (leaves store p windowSize weights sizes))
+returns : tie.Need-returns
+returns c = rw (lt-ltb (c .before .before .before .args .p) 4 (c .if1 .taken)) refl
 
-abbrev μ-loop : tie.MeasureT-loop
-μ-loop store p windowSize weights sizes bad₀ k₀ bad k = length weights - k
+least-requires : tie.Need-least-requires
+least-requires c κs = search needs
 
-loop-holds : tie.Need-loop-holds Inv-loop μ-loop
-loop-holds c = (omega arith, refl)
+most-requires : tie.Need-most-requires
+most-requires c κs = search needs
 
-in-use-requires : tie.Need-in-use-requires Inv-loop μ-loop
-in-use-requires c κs = (c .before .before .before .before .pre .1 .1 .0, omega (arith, c .before .before .before .before .pre .1 .1 .1))
+power-requires : tie.Need-power-requires
+power-requires c κs = search needs
 
-mul-scaled : tie.Need-mul-scaled Inv-loop μ-loop
-mul-scaled c = search needs
+some-outside-requires : tie.Need-some-outside-requires
+some-outside-requires c κs = search needs
 
-shared-slice-read-scaled : tie.Need-shared-slice-read-scaled Inv-loop μ-loop
-shared-slice-read-scaled c = search needs
+returns-2 : tie.Need-returns-2
+returns-2 c =
+    let start = c .before .before .before .before .before .before .before .before in
+    let a = start .args in
+    let none = none-leaves (a .store) (start .pre .0) (a .p) (a .window-size) (a .weights .now) (a .sizes .now) (c .before .before .before .before .least .ensures) (c .before .before .before .most .ensures) (c .before .before .power .ensures) (c .before .some-outside .ensures) (c .if2 .taken) in
+    rw (le-ltb (a .p) 4 (c .before .before .before .before .before .if1 .left), none) refl
 
-scaled-requires : tie.Need-scaled-requires Inv-loop μ-loop
-scaled-requires c κs = search needs
+some-leaves-requires : tie.Need-some-leaves-requires
+some-leaves-requires c κs = search needs
 
-holds-requires : tie.Need-holds-requires Inv-loop μ-loop
-holds-requires c κs = search needs
-
-add-k : tie.Need-add-k Inv-loop μ-loop
-add-k c = search needs
-
-loop-less : tie.Need-loop-less Inv-loop μ-loop
-loop-less c = search needs
-
-loop-again : tie.Need-loop-again Inv-loop μ-loop
-loop-again c = (omega arith, rw (add-one, c .before .before .before .before .before .loop .inv .1, c .before .before .before .in-use .ensures, c .holds .ensures, c .before .scaled .ensures) refl)
-
-returns : tie.Need-returns Inv-loop μ-loop
-returns c =
-    let all : c .before .loop .k ≡ length (c .before .before .before .before .args .weights .now) = omega arith in
-    rw (c .before .loop .inv .1, all) refl
+returns-3 : tie.Need-returns-3
+returns-3 c = rw (le-ltb (c .before .before .before .before .before .before .before .before .before .args .p) 4 (c .before .before .before .before .before .before .if1 .left)) (c .some-leaves .ensures)
 
 pub unstorable-spec : {M : Type 1} → statement M
 unstorable-spec =
     tie.close
     (tie.spec
-    Inv-loop
-    μ-loop
-    loop-holds
-    in-use-requires
-    mul-scaled
-    shared-slice-read-scaled
-    scaled-requires
-    holds-requires
-    add-k
-    loop-less
-    loop-again
-    returns)
+    returns
+    least-requires
+    most-requires
+    power-requires
+    some-outside-requires
+    returns-2
+    some-leaves-requires
+    returns-3)
