@@ -5,8 +5,8 @@
  * What one call may write overlaps nothing else that is handed to it. The functions are those of the crates mirror_*, each proved against
  * a contract that decides every answer; docs/CONTRACTS.md has it in a sentence.
  *
- * Numbers beside the answer (weight, left, top, width, height, window, line, precision, written) are always written, and are 0 on every
- * refusal, but for the line of No. 8.
+ * Numbers beside the answer (weight, left, top, width, height, window, line, precision, written, filter, lines, windows, store, byte) are
+ * always written, and are 0 on every refusal, but for the line of No. 8 and the byte of No. 13.
  *
  * The contracts know one NaN. So of a NaN in a list of doubles or floats, "unchanged" promises that it stays a NaN, not that it keeps its
  * sign and payload; the compiled code does not touch such a slot, which tests/c shows bit by bit.
@@ -39,6 +39,7 @@ enum {
     MIRROR_DOES_NOT_FIT = 10,    /* list lengths, a column range or a window do not fit (at each function) */
     MIRROR_NO_ROOM = 11,         /* sheet room too small */
     MIRROR_SAMPLE_OUTSIDE = 12,  /* f32 pass: a sample in use or weight in use not finite, or a weight above 2^64 in size */
+    MIRROR_NOT_A_SHEET = 13,     /* a text that is not of a sheet's form; the byte where its longest acceptable beginning ends is given */
     MIRROR_BAD_CODE = 100        /* a filter above 3, an axis above 1 or a flag above 1; judged before anything else, nothing is written but
                                     the zeros beside the answer. It exists at this interface only, where a choice has become a number. */
 };
@@ -119,6 +120,19 @@ uint32_t mirror_sheet16(uint32_t filter, uint32_t lines, uint32_t window, uint32
 uint32_t mirror_sheet32(uint32_t filter, uint32_t lines, uint32_t window, uint32_t precision,
                         const int32_t *weights, size_t weights_len, const uint32_t *starts, size_t starts_len,
                         const uint32_t *sizes, size_t sizes_len, uint8_t *text, size_t text_len, uint64_t *written);
+
+/* The set of a sheet's text in the three lists, and what its head says beside the answer: the filter's code, camera lines, display lines
+ * (windows), window size, bits of the store, precision. mirror_read_sheet takes sheets of both stores, mirror_read_sheet16 those of the
+ * 16-bit store alone. Exactly the texts that the writers write for a set that the u16 pass takes are accepted, byte for byte; slots past a
+ * window's size become 0. The whole text is judged before anything is written. 0, 7, 13. No. 7: the kind line and the three size lines
+ * are right, and fewer than windows x window size slots, or than windows starts or sizes, are lent. No. 13: byte is how many bytes of the
+ * text begin some sheet. */
+uint32_t mirror_read_sheet(const uint8_t *text, size_t text_len, int32_t *weights, size_t weights_len,
+                           uint32_t *starts, size_t starts_len, uint32_t *sizes, size_t sizes_len, uint32_t *filter, uint32_t *lines,
+                           uint32_t *windows, uint32_t *window, uint32_t *store, uint32_t *precision, uint64_t *byte);
+uint32_t mirror_read_sheet16(const uint8_t *text, size_t text_len, int16_t *weights, size_t weights_len,
+                             uint32_t *starts, size_t starts_len, uint32_t *sizes, size_t sizes_len, uint32_t *filter, uint32_t *lines,
+                             uint32_t *windows, uint32_t *window, uint32_t *store, uint32_t *precision, uint64_t *byte);
 
 #ifdef __cplusplus
 }

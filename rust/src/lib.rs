@@ -8,6 +8,7 @@ mod crops;
 mod numbers;
 mod passes;
 pub mod raw;
+mod readers;
 mod refusal;
 mod sets;
 mod sheets;
@@ -17,6 +18,7 @@ pub use alpha::{divide_alpha16, divide_alpha16_inplace, multiply_alpha16, multip
 pub use crops::{crop, fit, Centring, CropBox};
 pub use numbers::{abs, ceil, clip8, filter, floor, narrow, round, widen, Filter};
 pub use passes::{vertical_f32, vertical_u16, Frame};
+pub use readers::{read_sheet, read_sheet16, Head};
 pub use refusal::Refusal;
 pub use sets::{normalize16, normalize32, weights, Axis, Request, Set};
 pub use sheets::{sheet16, sheet32};

@@ -44,6 +44,18 @@ pub enum Filter {
     Mitchell = 3,
 }
 
+impl Filter {
+    /// The filter of a code of the C interface, which has no code above 3.
+    pub(crate) fn of_code(code: u32) -> Filter {
+        match code {
+            0 => Filter::Box,
+            1 => Filter::Bilinear,
+            2 => Filter::CatmullRom,
+            _ => Filter::Mitchell,
+        }
+    }
+}
+
 /// The filter's weight at the distance x.
 pub fn filter(filter: Filter, x: f64) -> f64 {
     let mut weight = 0.0;

@@ -66,4 +66,13 @@ extern "C" {
         filter: u32, lines: u32, window: u32, precision: u32, weights: *const i32, weights_len: usize, starts: *const u32, starts_len: usize,
         sizes: *const u32, sizes_len: usize, text: *mut u8, text_len: usize, written: *mut u64,
     ) -> u32;
+
+    pub fn mirror_read_sheet(
+        text: *const u8, text_len: usize, weights: *mut i32, weights_len: usize, starts: *mut u32, starts_len: usize, sizes: *mut u32, sizes_len: usize,
+        filter: *mut u32, lines: *mut u32, windows: *mut u32, window: *mut u32, store: *mut u32, precision: *mut u32, byte: *mut u64,
+    ) -> u32;
+    pub fn mirror_read_sheet16(
+        text: *const u8, text_len: usize, weights: *mut i16, weights_len: usize, starts: *mut u32, starts_len: usize, sizes: *mut u32, sizes_len: usize,
+        filter: *mut u32, lines: *mut u32, windows: *mut u32, window: *mut u32, store: *mut u32, precision: *mut u32, byte: *mut u64,
+    ) -> u32;
 }

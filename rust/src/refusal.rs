@@ -28,12 +28,19 @@ pub enum Refusal {
     NoRoom,
     /// 12: f32 pass: a sample or weight in use not finite, or a weight above 2^64 in size
     SampleOutside,
+    /// 13: a text that is not of a sheet's form; how many of its bytes begin some sheet
+    NotASheet(u64),
     /// 100: a code that names nothing; enums of this crate have no such code
     BadCode,
 }
 
 /// The answer of a call: `line` is what stood beside it.
 pub(crate) fn judged(number: u32, line: u32) -> Result<(), Refusal> {
+    judged_at(number, line, 0)
+}
+
+/// The same, with the byte that stood beside it.
+pub(crate) fn judged_at(number: u32, line: u32, byte: u64) -> Result<(), Refusal> {
     Err(match number {
         0 => return Ok(()),
         1 => Refusal::BadSide,
@@ -48,6 +55,7 @@ pub(crate) fn judged(number: u32, line: u32) -> Result<(), Refusal> {
         10 => Refusal::DoesNotFit,
         11 => Refusal::NoRoom,
         12 => Refusal::SampleOutside,
+        13 => Refusal::NotASheet(byte),
         _ => Refusal::BadCode,
     })
 }
@@ -68,6 +76,7 @@ impl Refusal {
             Refusal::DoesNotFit => 10,
             Refusal::NoRoom => 11,
             Refusal::SampleOutside => 12,
+            Refusal::NotASheet(_) => 13,
             Refusal::BadCode => 100,
         }
     }

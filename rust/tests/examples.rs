@@ -140,9 +140,10 @@ fn alpha_of_16_bits() {
     assert_eq!((divide_alpha16_inplace(&mut pixels[..3]), divide_alpha16_inplace(&mut [])), (Err(Refusal::DoesNotFit), Ok(())));
 }
 
+const SHEET: &[u8] = b"kind=box\nin=4\nout=2\nwindow=3\nstore=32\nprecision=31\nw0=0,2:1073741824,1073741824\nw1=2,2:1073741824,1073741824\n";
+
 #[test]
 fn the_sheet_is_document_01s() {
-    const SHEET: &[u8] = b"kind=box\nin=4\nout=2\nwindow=3\nstore=32\nprecision=31\nw0=0,2:1073741824,1073741824\nw1=2,2:1073741824,1073741824\n";
     let half = 1 << 30;
     let (weights, starts, sizes) = ([half, half, 0, half, half, 0], [CameraLine(0), CameraLine(2)], [2, 2]);
     let set32 = Set { lines: 4, window: 3, weights: &weights, starts: &starts, sizes: &sizes };
@@ -154,4 +155,39 @@ fn the_sheet_is_document_01s() {
     assert_eq!(sheet16(Filter::Mitchell, &set(1, &[-5], &[1]), 4, &mut text), Ok(65));
     assert!(text.starts_with(b"kind=mitchell\nin=1\nout=1\nwindow=1\nstore=16\nprecision=4\nw0=0,1:-5\n"));
     assert_eq!(sheet16(Filter::Box, &set(1, &[-5], &[1]), 22, &mut text), Err(Refusal::DoesNotFit));
+}
+
+#[test]
+fn a_sheet_is_read_back_and_written_again() {
+    let half = 1 << 30;
+    let (mut slots, mut starts, mut sizes) = ([7; 7], [CameraLine(7); 3], [7; 3]);
+    let head = Head { filter: Filter::Box, lines: 4, windows: 2, window: 3, store: 32, precision: 31 };
+    assert_eq!(read_sheet(SHEET, &mut slots, &mut starts, &mut sizes), Ok(head));
+    assert_eq!((slots, starts, sizes), ([half, half, 0, half, half, 0, 7], [CameraLine(0), CameraLine(2), CameraLine(7)], [2, 2, 7]));
+    let set32 = Set { lines: head.lines, window: head.window, weights: &slots[..6], starts: &starts[..2], sizes: &sizes[..2] };
+    let mut text = [7; SHEET.len()];
+    assert_eq!(sheet32(head.filter, &set32, head.precision, &mut text), Ok(SHEET.len() as u64));
+    assert_eq!(text, SHEET);
+
+    let (mut narrow, mut one, mut size) = ([7i16; 1], [CameraLine(7)], [7]);
+    let small = b"kind=mitchell\nin=1\nout=1\nwindow=1\nstore=16\nprecision=4\nw0=0,1:-5\n";
+    let head16 = Head { filter: Filter::Mitchell, lines: 1, windows: 1, window: 1, store: 16, precision: 4 };
+    assert_eq!(read_sheet16(small, &mut narrow, &mut one, &mut size), Ok(head16));
+    assert_eq!((narrow, one, size), ([-5], [CameraLine(0)], [1]));
+}
+
+#[test]
+fn a_text_that_is_no_sheet_is_refused_at_its_byte() {
+    let (mut slots, mut starts, mut sizes) = ([7; 6], [CameraLine(7); 2], [7; 2]);
+    let mut read = |text: &[u8]| {
+        let answer = read_sheet(text, &mut slots, &mut starts, &mut sizes);
+        assert_eq!((slots, starts, sizes), ([7; 6], [CameraLine(7); 2], [7; 2]));
+        answer
+    };
+    assert_eq!(read(b""), Err(Refusal::NotASheet(0)));
+    assert_eq!(read(&SHEET[..SHEET.len() - 1]), Err(Refusal::NotASheet(SHEET.len() as u64 - 1)));
+    assert_eq!(read(b"kind=box\nin=04\n"), Err(Refusal::NotASheet(12)));
+    assert_eq!(read(b"kind=box\nin=4\nout=3\nwindow=3\n"), Err(Refusal::TooFewSlots));
+    assert_eq!(read(b"kind=box\nin=4\nout=3\nwindow=3"), Err(Refusal::NotASheet(28)));
+    assert_eq!(read_sheet16(SHEET, &mut [7; 6], &mut starts, &mut sizes).map_err(Refusal::number), Err(13));
 }

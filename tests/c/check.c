@@ -70,6 +70,7 @@ int main(void)
     check_passes();
     check_alpha();
     check_sheets();
+    check_readers();
     printf("checks=%d failures=%d\n", checks, failures);
     return failures != 0;
 }

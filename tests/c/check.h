@@ -44,4 +44,5 @@ void check_normalizers(void);
 void check_passes(void);
 void check_alpha(void);
 void check_sheets(void);
+void check_readers(void);
 #endif

@@ -377,6 +377,43 @@ static int sheet(char **w)
     return 1;
 }
 
+/* A text: two lowercase hexadecimal digits a byte. */
+static struct list *read_text(const char *w)
+{
+    size_t length = strlen(w), count = strcmp(w, "-") == 0 ? 0 : length / 2;
+    if (length == 0 || (count && length % 2) || (!count && strcmp(w, "-") != 0) || (count && strspn(w, "0123456789abcdef") != length))
+        return NULL;
+    struct list *l = fresh(count, 1);
+    for (size_t i = 0; i < count; i++) {
+        char pair[3] = {w[2 * i], w[2 * i + 1], 0};
+        ((uint8_t *)at(l))[i] = (uint8_t)strtoul(pair, NULL, 16);
+    }
+    l->was = malloc(count + 1);
+    memcpy(l->was, at(l), count);
+    return l;
+}
+
+static int read_sheet(char **w)
+{
+    static const char *const names[] = {"box", "bilinear", "catmullrom", "mitchell"};
+    uint32_t kind = 77, lines = 77, windows = 77, window = 77, store = 77, precision = 77, no;
+    uint64_t byte = 77;
+    int wide = strcmp(w[0], "read") == 0;
+    struct list *text = read_text(w[1]), *ws = text ? lend(wide ? 'i' : 'h', w[2]) : NULL, *starts = ws ? lend('u', w[3]) : NULL, *sizes = starts ? lend('u', w[4]) : NULL;
+    OR_BAD(sizes);
+    if (wide)
+        no = mirror_read_sheet(at(text), text->count, at(ws), ws->count, at(starts), starts->count, at(sizes), sizes->count, &kind, &lines, &windows, &window, &store, &precision, &byte);
+    else
+        no = mirror_read_sheet16(at(text), text->count, at(ws), ws->count, at(starts), starts->count, at(sizes), sizes->count, &kind, &lines, &windows, &window, &store, &precision, &byte);
+    if (kind > 3)
+        return 0;
+    printf("%" PRIu32 " %" PRIu64 " %s %" PRIu32 " %" PRIu32 " %" PRIu32 " %" PRIu32 " %" PRIu32, no, byte, no ? "-" : names[kind], lines, window, store, precision, windows);
+    show(wide ? 'i' : 'h', ws);
+    show('u', starts);
+    show('u', sizes);
+    return 1;
+}
+
 static int one_of(const char *w, const char *names)
 {
     size_t n = strlen(w);
@@ -413,6 +450,8 @@ static int answer(char **w, int words)
         return alpha16(w, words);
     if (words == 10 && strcmp(w[0], "sheet") == 0)
         return sheet(w);
+    if (words == 5 && one_of(w[0], "read read16"))
+        return read_sheet(w);
     return 0;
 }
 

@@ -5,7 +5,7 @@ usage: stored.py ORACLE TESTFLOAT FOLDER [group ..]        (no group: all of the
 
 Writes FOLDER/GROUP.in and FOLDER/GROUP.out. TESTFLOAT is the file of TestFloat's cases (`n X floor ceil round narrow`,
 `w X widened`): their answers are stored, and the oracle has to give the same. What the oracle calls `bad` has the word and the
-reason of tests/reading. The seed is fixed: the same lines every time.
+reason of tests/reading; of the group `read` it knows nothing, and all answers are tests/reading's. The seed is fixed: the same lines every time.
 """
 import os
 import random
@@ -364,7 +364,48 @@ def sheet_group(r):
     yield from ("sheet box 1 1 16 14 32768 0 1 99", "sheet box 1 1 64 14 1 0 1 99", "sheet lanczos3 1 1 16 14 1 0 1 99", "sheet box 1 1 16 14 1 0 1", "sheet box 1 1 16 14 -32769 0 1 9", "")
 
 
-GROUPS = {"numbers": numbers, "alpha": alpha_group, "alpha16": alpha16_group, "crop": crop_group, "normalizer": normalizer, "build": build_group, "passes": passes, "sheet": sheet_group}
+def read_group(r):
+    """Every sheet of the group above, read back; then a text for each mistake that a reader has to see, and every beginning of one sheet."""
+    for line in sheet_group(random.Random(SEED)):
+        words = line.split(" ")
+        no, length, text = (reading.answer(line) + "   ").split(" ")[:3]
+        if words[0] == "sheet" and no == "0":
+            windows = words[7].count(",") + 1
+            for name in ("read", "read16"):
+                yield "%s %s %d %d %d" % (name, text[:2 * int(length)], int(words[3]) * windows + 1, windows, windows + 1)
+    good = texts.sheet_text("box", 4, 3, 32, 31, [2**30, 2**30, 0, -1, 2**31 - 1, 0], [0, 2], [2, 2])
+    small = texts.sheet_text("mitchell", 9, 2, 16, 21, [-(2**15), 2**15 - 1], [7], [2])
+
+    def of(old, new, text=good, room="6 2 2"):
+        assert text.count(old) > 0
+        return ["%s %s %s" % (name, text.replace(old, new, 1).hex() or "-", room) for name in ("read", "read16")]
+    for old, new in (("in=4", "in=04"), ("in=4", "in=+4"), ("-1,", "-0,"), ("-1,", "-01,"), ("-1,", "--1,"), ("in=4", "in= 4"), ("in=4", "in=4 "), ("in=", " in="), ("\n", "\r\n"), ("\n", "\n\n"), ("=", "=\t"), ("in=4", "in=0"),
+                     ("in=4", "in=8192"), ("in=4", "in=8193"), ("in=4", "in=9000"), ("in=4", "in=81920"), ("out=2", "out=0"), ("out=2", "out=1"), ("out=2", "out=3"), ("window=3", "window=0"), ("window=3", "window=1"),
+                     ("window=3", "window=32769"), ("window=3", "window=32770"), ("store=32", "store=16"), ("store=32", "store=64"), ("store=32", "store=3"), ("=31", "=3"), ("=31", "=4"), ("=31", "=45"), ("=31", "=46"), ("=31", "=021"),
+                     ("w1=2,2", "w1=3,2"), ("w1=2,2", "w1=2,3"), ("w1=2,2", "w1=2,0"), ("w1=2,2", "w1=4,1"), ("w1=", "w2="), ("w1=", "w01="), ("w0=0,2:", "w0=0,2,"), (",1073741824\n", "\n"), (",1073741824\n", ",1073741824,\n"), (",1073741824\n", ",1,1\n"),
+                     ("2147483647", "2147483648"), ("-1,", "-2147483648,"), ("-1,", "-2147483649,"), ("2147483647", "9" * 1000), ("in=4", "in=" + "4" * 1000), ("kind=box", "kind=Box"), ("kind=box", "kind=bo"), ("kind=box", "kind=lanczos3"),
+                     ("kind=box", "kind=bilinea"), ("kind", "king"), ("\n", "\0"), ("box", "box\0"), ("in=4", "\u00e9=4")):
+        yield from of(old.encode(), new.encode())
+    for end in (b"", b"\n", b"0", b"\0", b"\r\n", good):
+        yield from of(good, good[:-1] + end if end != good else good + good)
+        yield from of(good, good + end)
+    for old, new in (("-32768", "-32769"), ("32767\n", "32768\n"), ("=21", "=22"), ("=21", "=4"), ("=16", "=32"), ("=7,2", "=8,2")):
+        yield from of(old.encode(), new.encode(), small, "2 1 1")
+    for room in ("5 2 2", "6 1 2", "6 2 1", "0 0 0", "7 3 3"):
+        yield from of(b"w0", b"w0", good, room)
+        yield from of(b"window=3\n", b"window=3", good, room)
+        yield from of(b"store", b"shore", good, room)
+    for at in range(len(small)):
+        yield "read16 %s 2 1 1" % (small[:at].hex() or "-")
+    for _ in range(120):
+        line = read(r)
+        while len(line) > 400:
+            line = read(r)
+        yield line
+    yield from ("read - 1 1 1", "read16 - 0 0 0", "read 6 1 1 1", "read 6B 1 1 1", "read 6g 1 1 1", "read  1 1 1", "read 6b 1 1", "read 6b 1 1 1 1", "read 6b 131073 1 1", "read 6b 1 1 -1", "read16 zz 131073 1 1", "read", "read32 - 1 1 1", "")
+
+
+GROUPS = {"numbers": numbers, "alpha": alpha_group, "alpha16": alpha16_group, "crop": crop_group, "normalizer": normalizer, "build": build_group, "passes": passes, "sheet": sheet_group, "read": read_group}
 
 
 def answers(oracle, lines):
@@ -380,7 +421,7 @@ def main():
         if name not in GROUPS:
             sys.exit("no group %s; there are %s" % (name, ", ".join(GROUPS)))
         lines = list(dict.fromkeys(GROUPS[name](random.Random(SEED))))
-        stored = answers(oracle, lines)
+        stored = [reading.answer(q) for q in lines] if name == "read" else answers(oracle, lines)
         if name == "numbers":
             theirs = list(testfloat(vectors))
             ours = answers(oracle, [q for q, _ in theirs])

@@ -1,4 +1,4 @@
-"""What the requests of document 02 change in the reading. Each is a function that puts it in force; `run --with W-203,W-204` calls them, in the order of their numbers.
+"""What the requests of document 02 change in the reading. Each is a function that puts it in force; `run --with W-204,W-205` calls them, in the order of their numbers.
 From W-208 on a request takes W-207 to be in force. When one lands, its lines move to lines.py.
 
 Written from document 02, the decisions on its open points and the protocol alone."""
@@ -9,29 +9,7 @@ import lines
 import numbers_of_bits as numbers
 import reader
 import weights
-from lines import REQUESTS, SET, LISTS, b64, i16, lent, listed, number, passed, show, u8, u16, u32
-
-
-# W-203: the readers.
-
-def bytes_of(word):
-    if word == "-":
-        return b""
-    if len(word) % 2 or any(c not in "0123456789abcdef" for c in word):
-        raise lines.Bad("not bytes in hexadecimal")
-    return bytes.fromhex(word)
-
-
-def was_read(stores):
-    def answer(text, slots, starts, sizes):
-        no, byte, head = reader.read(stores, text, slots, starts, sizes)
-        return "%d %d %s %s %s %s" % (no, byte, " ".join(map(str, head)), show(slots), show(starts), show(sizes))
-    return answer
-
-
-def w203():
-    for name, stores in (("read", (16, 32)), ("read16", (16,))):
-        REQUESTS[name] = ((bytes_of, lent(), lent(), lent()), was_read(stores))
+from lines import REQUESTS, SET, LISTS, b64, bytes_of, i16, lent, listed, number, passed, show, u8, u16, u32
 
 
 # W-204: No. 5 compares the exact sum with the side; the far edge that the scale is made of stays rounded.
@@ -357,4 +335,4 @@ def w214():
 
 
 IN_FORCE = set()
-LANDS = {"W-203": w203, "W-204": w204, "W-205": w205, "W-206": w206, "W-207": w207, "W-208": w208, "W-209": w209, "W-210": w210, "W-211": w211, "W-213": w213, "W-214": w214}
+LANDS = {"W-204": w204, "W-205": w205, "W-206": w206, "W-207": w207, "W-208": w208, "W-209": w209, "W-210": w210, "W-211": w211, "W-213": w213, "W-214": w214}

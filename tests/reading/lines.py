@@ -3,6 +3,7 @@ import re
 
 import frames
 import numbers_of_bits as numbers
+import reader
 import weights
 
 
@@ -40,6 +41,14 @@ def listed(item):
 
 def lent(most=131072, made=lambda v: v):
     return lambda word: [made((7 * i + 3) % 251) for i in range(number(0, most, "no length up to %d" % most)(word))]
+
+
+def bytes_of(word):
+    if word == "-":
+        return b""
+    if not re.fullmatch("([0-9a-f]{2})+", word):
+        raise Bad("not bytes in hexadecimal")
+    return bytes.fromhex(word)
 
 
 u8, u16, u32 = number(0, 255, "not a u8"), number(0, 65535, "not a u16"), number(0, 2**32 - 1, "not a u32")
@@ -87,6 +96,13 @@ def sheet(*a):
     return "%d %d %s" % (*frames.sheet(*a), "".join("%02x" % v for v in a[-1]) or "-")
 
 
+def was_read(stores):
+    def answer(text, slots, starts, sizes):
+        no, byte, head = reader.read(stores, text, slots, starts, sizes)
+        return "%d %d %s %s %s %s" % (no, byte, " ".join(map(str, head)), show(slots), show(starts), show(sizes))
+    return answer
+
+
 def pattern_of(of, form):
     return lambda b: form % of(b)
 
@@ -106,6 +122,7 @@ REQUESTS |= {
     "mul8in": ((listed(u8),), pixels(frames.multiplied)), "div8in": ((listed(u8),), pixels(frames.divided)),
     "mul16": ((listed(u16), lent()), pixels(frames.multiplied16)), "div16": ((listed(u16), lent()), pixels(frames.divided16)),
     "mul16in": ((listed(u16),), pixels(frames.multiplied16)), "div16in": ((listed(u16),), pixels(frames.divided16)),
+    "read": ((bytes_of, lent(), lent(), lent()), was_read((16, 32))), "read16": ((bytes_of, lent(), lent(), lent()), was_read((16,))),
 }
 
 

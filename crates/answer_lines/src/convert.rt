@@ -14,7 +14,7 @@ pub(crate) fn from_u32(x: u32) -> u64 {
 }
 
 // The size of an i32.
-pub(crate) fn size(v: i32) -> u64 {
+pub fn size(v: i32) -> u64 {
     if v < 0 {
         return ((-1 - v) as u64) + 1;
     }

@@ -25,7 +25,7 @@ pub fn byte(b: u8, n: usize, out: &mut [u8]) -> usize {
 }
 
 // A word, byte by byte.
-pub(crate) fn word(s: &[u8], n: usize, out: &mut [u8]) -> usize {
+pub fn word(s: &[u8], n: usize, out: &mut [u8]) -> usize {
     let mut p = n;
     let mut i: usize = 0;
     while i < s.len() {

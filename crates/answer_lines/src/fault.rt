@@ -2,8 +2,8 @@
 use crate::emit;
 
 // The reasons, 26 bytes each, a full stop behind each.
-const REASONS: [u8; 468] =
-    *b"not a u8.                 not a u16.                not a u32.                not an i16.               not an i32.               not 16 hexadecimal digits.not 8 hexadecimal digits. not 0 or 1.               not 16 or 32.             no filter.                no length up to 131072.   no length up to 524288.   a word too many.          a word too few.           no request.               a line too long.          a carriage return.        malformed.                ";
+const REASONS: [u8; 494] =
+    *b"not a u8.                 not a u16.                not a u32.                not an i16.               not an i32.               not 16 hexadecimal digits.not 8 hexadecimal digits. not 0 or 1.               not 16 or 32.             no filter.                no length up to 131072.   no length up to 524288.   not bytes in hexadecimal. a word too many.          a word too few.           no request.               a line too long.          a carriage return.        malformed.                ";
 
 // The row of a reason, by its letter: a field's kind as request_fields has them, and s for a store, ? for no request, l for a line, r for a return.
 fn row(reason: u8) -> usize {
@@ -20,12 +20,13 @@ fn row(reason: u8) -> usize {
         b'k' => 9,
         b'n' => 10,
         b'm' => 11,
-        b'+' => 12,
-        b'-' => 13,
-        b'?' => 14,
-        b'l' => 15,
-        b'r' => 16,
-        _ => 17,
+        b't' => 12,
+        b'+' => 13,
+        b'-' => 14,
+        b'?' => 15,
+        b'l' => 16,
+        b'r' => 17,
+        _ => 18,
     }
 }
 
@@ -45,8 +46,8 @@ fn reason_from(reasons: &[u8], a: usize, n: usize, out: &mut [u8]) -> usize {
 
 // Where row k begins, the last row's place for any later one.
 fn place(k: usize) -> usize {
-    if 17 < k {
-        return 442;
+    if 18 < k {
+        return 468;
     }
     k * 26
 }

@@ -13,6 +13,7 @@ pub mod u16s;
 pub mod u32s;
 pub mod u8s;
 
+pub use convert::size;
 pub use fault::bad;
 pub use said::Said;
 pub use said::closed;

@@ -175,6 +175,38 @@ fn sheets(line: &[u8], a: Said, out: &mut [u8]) -> Said {
     )
 }
 
+// The lists of `ask_reader::answer`, and nothing else: one call.
+fn readings(line: &[u8], a: Said, out: &mut [u8]) -> Said {
+    if a.done {
+        return a;
+    }
+    let mut text = [0u8; 131072];
+    let mut wide = [0i32; 131072];
+    let mut starts = [0u32; 131072];
+    let mut sizes = [0u32; 131072];
+    ask_reader::answer(line, a, out, &mut text, &mut wide, &mut starts, &mut sizes)
+}
+
+// The lists of `ask_reader::answer16`, and nothing else: one call.
+fn narrow_readings(line: &[u8], a: Said, out: &mut [u8]) -> Said {
+    if a.done {
+        return a;
+    }
+    let mut text = [0u8; 131072];
+    let mut narrow = [0i16; 131072];
+    let mut starts = [0u32; 131072];
+    let mut sizes = [0u32; 131072];
+    ask_reader::answer16(
+        line,
+        a,
+        out,
+        &mut text,
+        &mut narrow,
+        &mut starts,
+        &mut sizes,
+    )
+}
+
 // The first of the groups.
 fn early(line: &[u8], a: Said, out: &mut [u8]) -> Said {
     let b = small_groups(line, a, out);
@@ -188,7 +220,9 @@ fn early(line: &[u8], a: Said, out: &mut [u8]) -> Said {
 fn late(line: &[u8], a: Said, out: &mut [u8]) -> Said {
     let b = frames(line, a, out);
     let c = float_frames(line, b, out);
-    sheets(line, c, out)
+    let d = sheets(line, c, out);
+    let e = readings(line, d, out);
+    narrow_readings(line, e, out)
 }
 
 // The answer to the line at s.at .. s.to, if there is one; the output's place behind it.

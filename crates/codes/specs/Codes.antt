@@ -1,5 +1,5 @@
 -- Codes of the C interface: what each names, and the answers where a code may name nothing. No. 100 exists here only; it is judged first, and the numbers
--- beside it are 0. Cited by the contracts of `codes`, `mirror_crop`, `mirror_sets` and `mirror_sheets`. Definitions only. Assumes nothing.
+-- beside it are 0. Cited by the contracts of `codes`, `mirror_crop`, `mirror_sets`, `mirror_sheets` and `mirror_readers`. Definitions only. Assumes nothing.
 use mathlib.Core.Bool.{Bool, cond, _||_}
 use Prim.Native.Nat.{ℕ}
 use lib.Dec.{ltb, eqb}
@@ -29,6 +29,12 @@ noFlag code = ltb 1 code
 
 abbrev pub filterOf : ℕ → FilterType
 filterOf code = cond (eqb code 0) Box (cond (eqb code 1) Bilinear (cond (eqb code 2) CatmullRom Mitchell))
+
+abbrev pub codeOf : FilterType → ℕ
+codeOf Box = 0
+codeOf Bilinear = 1
+codeOf CatmullRom = 2
+codeOf Mitchell = 3
 
 abbrev pub axisOf : ℕ → Axis
 axisOf code = cond (eqb code 0) Across Down

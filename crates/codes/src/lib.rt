@@ -1,7 +1,7 @@
 // `codes`: the numbers of include/mirror.h that stand for a filter, an axis and a centring, and what each names. The crates `mirror_*` share it; each answers
 // a code that names nothing itself, with `badCode`, before it asks here.
 ghost use mathlib.Core.Path.{_≡_};
-ghost use Rattle.codes.specs.Codes.{filterOf, axisOf, centringOf};
+ghost use Rattle.codes.specs.Codes.{filterOf, codeOf, axisOf, centringOf};
 use crop_box::Centring;
 use filters::FilterType;
 use plans::Axis;
@@ -20,6 +20,18 @@ pub fn filter_named(code: u32) -> FilterType
         return FilterType::CatmullRom;
     }
     FilterType::Mitchell
+}
+
+// The code of a filter.
+pub fn filter_code(filter: FilterType) -> u32
+    ensures answer { λ r. ⌜ r ≡ codeOf filter ⌝ }
+{
+    match filter {
+        FilterType::Box => 0,
+        FilterType::Bilinear => 1,
+        FilterType::CatmullRom => 2,
+        FilterType::Mitchell => 3,
+    }
 }
 
 // The axis of a code: 0 across, else down, whose code is 1. No caller asks with a code above 1.

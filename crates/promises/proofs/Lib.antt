@@ -15,3 +15,4 @@ pub mod ColumnCuts
 pub mod Refused
 pub mod Restated
 pub mod Table
+pub mod ReadBack

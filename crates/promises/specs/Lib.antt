@@ -6,3 +6,4 @@ pub mod BoxKeepsFlat
 pub mod AlphaSteps
 pub mod ClipRule
 pub mod Table
+pub mod ReadBack

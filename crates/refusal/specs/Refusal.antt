@@ -2,7 +2,7 @@
 -- Definitions only. Assumes nothing.
 use Prim.Native.Nat.{ℕ}
 use Rattle.refusal.specs.declared.Refusal.{Refusal}
-use Rattle.refusal.specs.declared.Refusal.the-variants.{BadSide, NotFinite, NegativeExtent, StartOutside, EndOutside, NoScale, TooFewSlots, BlankWindow, WeightOutside, DoesNotFit, NoRoom, SampleOutside}
+use Rattle.refusal.specs.declared.Refusal.the-variants.{BadSide, NotFinite, NegativeExtent, StartOutside, EndOutside, NoScale, TooFewSlots, BlankWindow, WeightOutside, DoesNotFit, NoRoom, SampleOutside, NotASheet}
 
 abbrev pub numberOf : Refusal → ℕ
 numberOf BadSide = 1
@@ -17,3 +17,4 @@ numberOf WeightOutside = 9
 numberOf DoesNotFit = 10
 numberOf NoRoom = 11
 numberOf SampleOutside = 12
+numberOf NotASheet = 13

@@ -27,6 +27,8 @@ pub enum Refusal {
     NoRoom,
     // 12: f32 pass: a sample or weight in use not finite, or a weight above 2^64
     SampleOutside,
+    // 13: text not of a sheet's form
+    NotASheet,
 }
 
 // The number of document 01's table.
@@ -46,5 +48,6 @@ pub fn number(refusal: Refusal) -> u32
         Refusal::DoesNotFit => 10,
         Refusal::NoRoom => 11,
         Refusal::SampleOutside => 12,
+        Refusal::NotASheet => 13,
     }
 }

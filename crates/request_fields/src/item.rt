@@ -2,7 +2,9 @@
 //   b u8, h u16, w u32, n a lent length, m the room of a sheet: decimal, up to a largest number;
 //   i i16, j i32: decimal with a minus sign or none;
 //   x a double's pattern, y a single's, z 0 or 1: so many hexadecimal digits;
+//   t a text: two hexadecimal digits a byte;
 //   k a filter's name, which is looked up by whoever knows the filters.
+use crate::pairs;
 use crate::signed;
 use text::Number;
 
@@ -49,6 +51,9 @@ pub(crate) fn item(s: &[u8], a: usize, e: usize, kind: u8) -> Number {
     }
     if kind == b'k' {
         return Number::Is(0);
+    }
+    if kind == b't' {
+        return pairs::whole(s, a, e);
     }
     text::read_number(10, s, a, n, most(kind))
 }

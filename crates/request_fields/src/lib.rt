@@ -9,6 +9,7 @@ pub mod fields;
 pub mod i16s;
 pub mod i32s;
 mod item;
+mod pairs;
 mod shape;
 mod signed;
 pub mod u16s;

@@ -1,7 +1,8 @@
-// Lists of u8: read from a line, and filled before a call.
+// Lists of u8: read from a line, as numbers or as a text, and filled before a call.
 use crate::convert;
 use crate::fields;
 use crate::item;
+use crate::pairs;
 use crate::words;
 ghost use Prim.Native.Nat.{_≤_};
 ghost use lib.ListN.{length};
@@ -43,4 +44,23 @@ pub fn lend(line: &[u8], k: usize, out: &mut [u8]) -> usize
         i += 1;
     }
     i
+}
+
+// Word k as a text into the beginning of out: how many bytes.
+pub fn read_hex(line: &[u8], k: usize, out: &mut [u8]) -> usize
+    ensures { λ r. ⌜ r ≤ length (now (out .entry)) ⌝ }
+{
+    let w = words::word(line, k);
+    let e = w.to;
+    let mut at = w.from;
+    let mut n: usize = 0;
+    while n < out.len() {
+        if e - at < 2 {
+            return n;
+        }
+        out[n] = convert::to_u8(pairs::byte(line, at));
+        n += 1;
+        at += 2;
+    }
+    n
 }

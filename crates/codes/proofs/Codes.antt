@@ -1,0 +1,11 @@
+-- A filter's code names that filter, so what a reader tells can be handed to a writer. Cited by docs/CONTRACTS.md. Assumes nothing.
+use mathlib.Core.Path.{_≡_, refl}
+use Rattle.filters.specs.declared.FilterType.{FilterType}
+use Rattle.filters.specs.declared.FilterType.the-variants.{Box, Bilinear, CatmullRom, Mitchell}
+use Rattle.codes.specs.Codes.{filterOf, codeOf}
+
+pub filter-of-code : (f : FilterType) → filterOf (codeOf f) ≡ f
+filter-of-code Box = refl
+filter-of-code Bilinear = refl
+filter-of-code CatmullRom = refl
+filter-of-code Mitchell = refl

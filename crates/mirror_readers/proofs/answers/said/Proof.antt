@@ -1,0 +1,13 @@
+-- `answers::said`: five numbers are the head's own, the filter's is what `filter_code` gives. Assumes nothing.
+use borrow.Author.Needs.{needs}
+use Rattle.mirror_readers.proofs.answers.said.Statement.{statement}
+use Rattle.mirror_readers.proofs.answers.said.Tie as tie
+
+filter-code-requires : tie.Need-filter-code-requires
+filter-code-requires c κs = search needs
+
+returns : tie.Need-returns
+returns c = rw (c .filter-code .ensures)
+
+pub said-spec : {M : Type 1} → statement M
+said-spec = tie.close (tie.spec filter-code-requires returns)

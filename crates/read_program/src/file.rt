@@ -1,0 +1,113 @@
+// The bytes of the file that argument 1 names.
+ghost use Prim.Native.Nat.{_-_, _≤_};
+ghost use lib.ListN.{length};
+
+// The file's end was seen; or it could not be opened or read; or it goes on where the room ends.
+pub(crate) enum Ends {
+    Whole,
+    Failed,
+    Long,
+}
+
+// How many bytes were read, and how that ended.
+pub(crate) struct Input {
+    pub(crate) n: usize,
+    pub(crate) ends: Ends,
+}
+
+// What one read brings.
+struct Part {
+    n: usize,
+    failed: bool,
+}
+
+// Nothing was read.
+fn failed() -> Input
+    ensures { λ r. ⌜ r .n ≤ 0 ⌝ }
+{
+    Input {
+        n: 0,
+        ends: Ends::Failed,
+    }
+}
+
+// One read behind the place a.
+fn read_at(fd: i32, buf: &mut [u8], a: usize) -> Part
+    ensures { λ r. ⌜ r .n ≤ length (now (buf .entry)) - a ⌝ }
+{
+    let e = buf.len();
+    if e < a {
+        return Part { n: 0, failed: true };
+    }
+    let got = libc::read(fd, &mut buf[a..e]);
+    let n = io::count(got, buf);
+    if e - a < n {
+        return Part { n: 0, failed: true };
+    }
+    Part {
+        n: n,
+        failed: got < 0,
+    }
+}
+
+// Reads to the file's end, or until the list is full.
+fn fill(fd: i32, buf: &mut [u8]) -> Part
+    ensures { λ r. ⌜ r .n ≤ length (now (buf .entry)) ⌝ }
+{
+    let mut n: usize = 0;
+    while n < buf.len() {
+        let part = read_at(fd, buf, n);
+        if part.failed {
+            return Part { n: 0, failed: true };
+        }
+        if part.n == 0 {
+            return Part {
+                n: n,
+                failed: false,
+            };
+        }
+        n += part.n;
+    }
+    Part {
+        n: n,
+        failed: false,
+    }
+}
+
+// Whether the file goes on.
+fn goes_on(fd: i32) -> bool {
+    let mut more = [0u8; 1];
+    let got = libc::read(fd, &mut more);
+    0 < got
+}
+
+// The descriptor of the file, below 0 where it cannot be opened.
+fn opened() -> i32 {
+    let mut name = [0u8; 4096];
+    let k = os::arg(1, &mut name);
+    os::open_read(&name[..k])
+}
+
+// The file's bytes, in the beginning of the list.
+pub(crate) fn read(buf: &mut [u8]) -> Input
+    ensures { λ r. ⌜ r .n ≤ length (now (buf .entry)) ⌝ }
+{
+    let fd = opened();
+    if fd < 0 {
+        return failed();
+    }
+    let part = fill(fd, buf);
+    if part.failed {
+        return failed();
+    }
+    if goes_on(fd) {
+        return Input {
+            n: 0,
+            ends: Ends::Long,
+        };
+    }
+    Input {
+        n: part.n,
+        ends: Ends::Whole,
+    }
+}

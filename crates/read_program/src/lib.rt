@@ -1,0 +1,56 @@
+// The program `read_back`: the sheet of a file. `file` brings the text, `reader` judges it; `told` says in words what a sheet says, `place` and `marked`
+// where a text that is none stops being one, `unread` and `limits` why no text was judged. Standard output has the answer, standard error the
+// reason for a person. No contract says what is read or printed, since none could speak of the streams; every function is safe at every argument.
+mod file;
+mod marked;
+mod place;
+mod streams;
+mod told;
+mod totals;
+mod unread;
+
+use file::Ends;
+use reader::Reading;
+
+// Answers the program's one argument, a file's name. The text stands here, apart from what looks at it.
+pub fn run() {
+    let mut text = [0u8; 524288];
+    if os::arg_count() < 2 {
+        return unread::missing();
+    }
+    if 2 < os::arg_count() {
+        return unread::too_many();
+    }
+    answer(&mut text);
+}
+
+// Reads the file, and what it has.
+fn answer(text: &mut [u8]) {
+    let a: usize = 0;
+    let got = file::read(text);
+    let n = got.n;
+    let ends = got.ends;
+    match ends {
+        Ends::Whole => judge(&text[a..n]),
+        Ends::Failed => unread::failed(),
+        Ends::Long => unread::long(),
+    }
+}
+
+// The lists of `read`, and nothing else: one call. Every set that the builder makes has at most 57,344 slots and 8,192 windows.
+fn judge(text: &[u8]) {
+    let mut weights = [0i32; 131072];
+    let mut starts = [0u32; 8192];
+    let mut sizes = [0u32; 8192];
+    read(text, &mut weights, &mut starts, &mut sizes);
+}
+
+// The sheet, read and told.
+fn read(text: &[u8], weights: &mut [i32], starts: &mut [u32], sizes: &mut [u32]) {
+    let answer = reader::read_sheet(text, weights, starts, sizes);
+    match answer {
+        Reading::Loaded(head, store) => told::sheet(head, store, weights, starts, sizes),
+        Reading::TooFew => unread::too_large(),
+        Reading::NotASheet(byte) => marked::refused(text, byte),
+    }
+}

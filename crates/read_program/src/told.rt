@@ -1,0 +1,131 @@
+// What a sheet says, in words: its head, then a line for each window.
+use crate::streams::out;
+use crate::streams::out_number;
+use crate::totals;
+use filters::FilterType;
+use sheet::keys;
+use sheet_scan::Sizes;
+use sheet_scan::StoreLines;
+
+// The whole of it.
+pub(crate) fn sheet(
+    head: Sizes,
+    store: StoreLines,
+    weights: &[i32],
+    starts: &[u32],
+    sizes: &[u32],
+) {
+    let kind = head.kind;
+    out(b"filter ");
+    name(kind);
+    said(b", camera lines ", head.lines);
+    said(b", display lines ", head.windows);
+    said(b"\nwindow size ", head.window_size);
+    said(b", store ", store.bits);
+    said(
+        b" bits; a weight stands for itself divided by 2^",
+        store.precision,
+    );
+    out(b"\n");
+    windows(
+        head.windows as usize,
+        head.window_size as usize,
+        store.precision,
+        weights,
+        starts,
+        sizes,
+    );
+}
+
+// Words and a number.
+fn said(words: &[u8], n: u32) {
+    out(words);
+    out_number(n as u64);
+}
+
+// A filter's name.
+fn name(kind: FilterType) {
+    match kind {
+        FilterType::Box => out(&keys::BOX),
+        FilterType::Bilinear => out(&keys::BILINEAR),
+        FilterType::CatmullRom => out(&keys::CATMULL_ROM),
+        FilterType::Mitchell => out(&keys::MITCHELL),
+    }
+}
+
+// A line for each of so many windows; `at` is where the slots of window i begin.
+fn windows(
+    count: usize,
+    wide: usize,
+    precision: u32,
+    weights: &[i32],
+    starts: &[u32],
+    sizes: &[u32],
+) {
+    let mut at: usize = 0;
+    let mut i: usize = 0;
+    while i < count {
+        if starts.len() <= i {
+            return;
+        }
+        if sizes.len() <= i {
+            return;
+        }
+        window(i, precision, starts[i], sizes[i], at, weights);
+        at = further(at, wide);
+        i += 1;
+    }
+}
+
+// The place so many slots on; the last place there is where that is past it.
+fn further(at: usize, n: usize) -> usize {
+    if usize::MAX - at < n {
+        return usize::MAX;
+    }
+    at + n
+}
+
+// The line of window i.
+fn window(i: usize, precision: u32, start: u32, size: u32, at: usize, weights: &[i32]) {
+    let n = size as usize;
+    let e = further(at, n);
+    if weights.len() < e {
+        return;
+    }
+    if e < at {
+        return;
+    }
+    out(b"display line ");
+    out_number(i as u64);
+    out(b": camera lines ");
+    out_number(start as u64);
+    out(b" to ");
+    out_number(last(start, size));
+    out(b", weights add up to 2^");
+    out_number(precision as u64);
+    beside(&weights[at..e], precision);
+    out(b"\n");
+}
+
+// The last line of a window.
+fn last(start: u32, size: u32) -> u64 {
+    let e = start as u64 + size as u64;
+    if e == 0 {
+        return 0;
+    }
+    e - 1
+}
+
+// What the total is more or less than 2^precision.
+fn beside(weights: &[i32], precision: u32) {
+    let above = totals::total(false, weights);
+    let below = totals::sum(totals::total(true, weights), totals::unit(precision));
+    if above < below {
+        out(b" - ");
+        out_number(below - above);
+    }
+    if below < above {
+        out(b" + ");
+        out_number(above - below);
+    }
+}

@@ -1,0 +1,7 @@
+pub mod LineLaws
+pub mod LayoutLaws
+pub mod FillLaws
+pub mod SlotLaws
+pub mod ReadLaws
+pub mod ReadingLaws
+pub mod Sure

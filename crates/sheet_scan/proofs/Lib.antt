@@ -1,0 +1,10 @@
+pub mod NameLaws
+pub mod HeadLaws
+pub mod RowLaws
+pub mod StoreLaws
+pub mod OpenLaws
+pub mod LineText
+pub mod SetLaws
+pub mod BackLaws
+pub mod WholeLaws
+pub mod LanguageLaws
