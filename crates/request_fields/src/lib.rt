@@ -12,6 +12,7 @@ mod item;
 mod pairs;
 mod shape;
 mod signed;
+mod source;
 pub mod u16s;
 pub mod u32s;
 pub mod u8s;

@@ -1,46 +1,41 @@
 // Lists of u16: read from a line, and filled before a call.
 use crate::convert;
-use crate::fields;
-use crate::item;
-use crate::words;
+use crate::source;
+use crate::source::Source;
 ghost use Prim.Native.Nat.{_≤_};
 ghost use lib.ListN.{length};
+
+fn element(line: &[u8], s: Source) -> u16 {
+    convert::to_u16(source::value(line, s, b'h'))
+}
+
+// The elements of the source into the beginning of out: how many.
+fn fill(line: &[u8], first: Source, out: &mut [u16]) -> usize
+    ensures { λ r. ⌜ r ≤ length (now (out .entry)) ⌝ }
+{
+    let mut s = first;
+    let mut n: usize = 0;
+    while n < out.len() {
+        if !s.more {
+            return n;
+        }
+        out[n] = element(line, s);
+        s = source::next(line, s);
+        n += 1;
+    }
+    n
+}
 
 // Word k as a list into the beginning of out: how many elements. `-` is the empty list.
 pub fn read(line: &[u8], k: usize, out: &mut [u16]) -> usize
     ensures { λ r. ⌜ r ≤ length (now (out .entry)) ⌝ }
 {
-    let w = words::word(line, k);
-    let e = w.to;
-    if words::is(line, w.from, e, b"-") {
-        return 0;
-    }
-    let mut at = w.from;
-    let mut n: usize = 0;
-    while n < out.len() {
-        let c = words::find(line, b',', at, e);
-        out[n] = convert::to_u16(item::value(line, at, c, b'h'));
-        n += 1;
-        if e <= c {
-            return n;
-        }
-        at = c + 1;
-    }
-    n
+    fill(line, source::elements(line, k), out)
 }
 
 // What a list of the length that word k is, lent, holds before a call, in the beginning of out: the length.
 pub fn lend(line: &[u8], k: usize, out: &mut [u16]) -> usize
     ensures { λ r. ⌜ r ≤ length (now (out .entry)) ⌝ }
 {
-    let m = fields::value(line, k, b'm');
-    let mut i: usize = 0;
-    while i < out.len() {
-        if m <= i as u64 {
-            return i;
-        }
-        out[i] = convert::to_u16(convert::lent(i));
-        i += 1;
-    }
-    i
+    fill(line, source::lent(line, k), out)
 }

@@ -1,19 +1,16 @@
--- `f32s::lend` meets its contract: the place grows up to the length, and the lent list keeps its own. Assumes nothing.
-use Rattle.request_fields.proofs.f32s.lend.Statement.{statement}
-use Rattle.request_fields.proofs.f32s.lend.Tie as tie
+-- `u16s::fill` meets its contract: the count stays inside the lent list, which keeps its length. Assumes nothing.
+use Rattle.request_fields.proofs.u16s.fill.Statement.{statement}
+use Rattle.request_fields.proofs.u16s.fill.Tie as tie
 use mathlib.Core.Path.{_≡_}
 use Prim.Native.Nat.{_≤_, _-_}
 use lib.ListN.{length}
 use borrow.Author.Needs.{needs}
 
 abbrev Inv-loop : tie.InvT-loop
-Inv-loop line k out₀ m i₀ out i = (i ≤ length out₀) × (length out ≡ length out₀)
+Inv-loop line out₀ s₀ n₀ out s n = (n ≤ length out₀) × (length out ≡ length out₀)
 
 abbrev μ-loop : tie.MeasureT-loop
-μ-loop line k out₀ m i₀ out i = length out₀ - i
-
-value-requires : tie.Need-value-requires Inv-loop μ-loop
-value-requires c κs = search needs
+μ-loop line out₀ s₀ n₀ out s n = length out₀ - n
 
 loop-holds : tie.Need-loop-holds Inv-loop μ-loop
 loop-holds c = search needs
@@ -24,14 +21,8 @@ same-length c = search needs
 returns : tie.Need-returns Inv-loop μ-loop
 returns c = search needs
 
-lent-requires : tie.Need-lent-requires Inv-loop μ-loop
-lent-requires c κs = search needs
-
-to-u32-requires : tie.Need-to-u32-requires Inv-loop μ-loop
-to-u32-requires c κs = search needs
-
-nearest-u32-to-f32-requires : tie.Need-nearest-u32-to-f32-requires Inv-loop μ-loop
-nearest-u32-to-f32-requires c κs = search needs
+element-requires : tie.Need-element-requires Inv-loop μ-loop
+element-requires c κs = search needs
 
 mul-out : tie.Need-mul-out Inv-loop μ-loop
 mul-out c = search needs
@@ -39,8 +30,11 @@ mul-out c = search needs
 slice-write-out : tie.Need-slice-write-out Inv-loop μ-loop
 slice-write-out c = search needs
 
-add-i : tie.Need-add-i Inv-loop μ-loop
-add-i c = search needs
+next-requires : tie.Need-next-requires Inv-loop μ-loop
+next-requires c κs = search needs
+
+add-n : tie.Need-add-n Inv-loop μ-loop
+add-n c = search needs
 
 loop-less : tie.Need-loop-less Inv-loop μ-loop
 loop-less c = search needs
@@ -54,22 +48,20 @@ same-length-2 c = search needs
 returns-2 : tie.Need-returns-2 Inv-loop μ-loop
 returns-2 c = search needs
 
-pub lend-spec : {M : Type 1} → statement M
-lend-spec =
+pub fill-spec : {M : Type 1} → statement M
+fill-spec =
     tie.close
     (tie.spec
     Inv-loop
     μ-loop
-    value-requires
     loop-holds
     same-length
     returns
-    lent-requires
-    to-u32-requires
-    nearest-u32-to-f32-requires
+    element-requires
     mul-out
     slice-write-out
-    add-i
+    next-requires
+    add-n
     loop-less
     loop-again
     same-length-2
