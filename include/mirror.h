@@ -29,7 +29,7 @@ enum {
     MIRROR_NOT_FINITE = 2,       /* a crop or centring number is NaN or infinite */
     MIRROR_NEGATIVE_EXTENT = 3,  /* crop width or height below 0 */
     MIRROR_START_OUTSIDE = 4,    /* left or top below 0, or at or past the image side */
-    MIRROR_END_OUTSIDE = 5,      /* left + width, or top + height, past the image side */
+    MIRROR_END_OUTSIDE = 5,      /* left + width, or top + height, past the image side: the exact sum, nothing rounded */
     MIRROR_NO_SCALE = 6,         /* scale is 0 or less */
     MIRROR_TOO_FEW_SLOTS = 7,    /* fewer slots, starts or sizes lent than needed */
     MIRROR_BLANK_WINDOW = 8,     /* a window has no weight other than 0, or its weight total is 0; the first such display line is given,
@@ -59,11 +59,12 @@ uint32_t mirror_narrow(uint64_t x);  /* binary64 to binary32, ties to even, infi
 /* One filter's weight at the distance x; 0 where x is infinite or a NaN. 0, 100. */
 uint32_t mirror_filter(uint32_t filter, double x, double *weight);
 
-/* Whether a crop box lies in the image. 0 to 5. */
+/* Whether a crop box lies in the image; its ends are judged by exact sums. 0 to 5. */
 uint32_t mirror_crop(uint32_t image_width, uint32_t image_height, double left, double top, double width, double height);
 
 /* The part of the source that has the display's ratio of sides. centred 0: centring is absent and means 0.5, 0.5, cx and cy are not
- * looked at; 1: it is (cx, cy), clamped to 0..1. A zero side gives the whole source. 0, 1, 2, 100. */
+ * looked at; 1: it is (cx, cy), clamped to 0..1. A zero side gives the whole source. The box may be No. 5 to mirror_crop, since left and width are
+ * rounded each by itself. 0, 1, 2, 100. */
 uint32_t mirror_fit(uint32_t src_width, uint32_t src_height, uint32_t dst_width, uint32_t dst_height,
                     uint32_t centred, double cx, double cy,
                     double *left, double *top, double *width, double *height);

@@ -17,12 +17,12 @@ pub enum Centring {
     At(f64, f64),
 }
 
-/// Whether the box lies in the image: `BadSide` to `EndOutside`.
+/// Whether the box lies in the image: `BadSide` to `EndOutside`. Its ends are judged by exact sums.
 pub fn crop(image_width: u32, image_height: u32, b: CropBox) -> Result<(), Refusal> {
     judged(unsafe { raw::mirror_crop(image_width, image_height, b.left, b.top, b.width, b.height) }, 0)
 }
 
-/// The part of the source that has the display's ratio of sides; sides are (width, height).
+/// The part of the source that has the display's ratio of sides; sides are (width, height). It may be `EndOutside` to `crop`: left and width are rounded each by itself.
 pub fn fit(source: (u32, u32), display: (u32, u32), centring: Centring) -> Result<CropBox, Refusal> {
     let (centred, cx, cy) = match centring {
         Centring::Absent => (0, 0.0, 0.0),

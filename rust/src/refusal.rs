@@ -12,7 +12,7 @@ pub enum Refusal {
     NegativeExtent,
     /// 4: left or top below 0, or at or past the image side
     StartOutside,
-    /// 5: left + width, or top + height, past the image side
+    /// 5: left + width, or top + height, past the image side: the exact sum, nothing rounded
     EndOutside,
     /// 6: scale is 0 or less
     NoScale,

@@ -32,6 +32,14 @@ fn crop_gives_numbers_1_to_5() {
 }
 
 #[test]
+fn crop_judges_the_exact_end() {
+    let quarter = |width| crop(1, 1, CropBox { left: 0.75, top: 0.0, width, height: 1.0 });
+    assert_eq!((quarter(0.25), quarter(0.25 + f64::EPSILON / 4.0)), (Ok(()), Err(Refusal::EndOutside)));
+    let fitted = fit((1, 1), (1, 3), Centring::At(1.0, 1.0)).unwrap();
+    assert_eq!(crop(1, 1, fitted), Err(Refusal::EndOutside));
+}
+
+#[test]
 fn fit_centres_unless_told() {
     assert_eq!(fit((200, 100), (100, 100), Centring::Absent), Ok(CropBox { left: 50.0, top: 0.0, width: 100.0, height: 100.0 }));
     assert_eq!(fit((200, 100), (100, 100), Centring::At(0.0, 0.0)).map(|b| b.left), Ok(0.0));

@@ -64,6 +64,8 @@ static void check_crop(void)
     CHECK(mirror_crop(10, 20, -1, 0, -1e-300, 1) == MIRROR_NEGATIVE_EXTENT && mirror_crop(10, 20, 0, 0, 1, -1) == MIRROR_NEGATIVE_EXTENT);
     CHECK(mirror_crop(10, 20, -1, 0, 100, 1) == MIRROR_START_OUTSIDE && mirror_crop(10, 20, 0, 20, 1, 0) == MIRROR_START_OUTSIDE);
     CHECK(mirror_crop(10, 20, 1, 0, 9.5, 1) == MIRROR_END_OUTSIDE && mirror_crop(10, 20, 0, 19, 1, 2) == MIRROR_END_OUTSIDE);
+    CHECK(mirror_crop(1, 1, 0.75, 0, 0.25, 1) == MIRROR_DONE && mirror_crop(1, 1, 0, 0.75, 1, 0.25) == MIRROR_DONE);
+    CHECK(mirror_crop(1, 1, 0.75, 0, 0x1.0000000000001p-2, 1) == MIRROR_END_OUTSIDE && mirror_crop(1, 1, 0, 0.75, 1, 0x1.0000000000001p-2) == MIRROR_END_OUTSIDE);
 }
 
 static void check_fit(void)

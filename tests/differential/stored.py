@@ -132,6 +132,15 @@ def crop_group(r):
             (0.0, 1.0, 1.0, 0.0), (0.75, 0.0, 0.25, 1.0), (0.75, 0.0, 0.25 + 2.0**-54, 1.0), (0.75, 0.0, step(0.25, 2), 1.0), (step(1.0, -1), 0.0, 2.0**-53, 1.0),
             (-TINY, 0.0, 2.0, 1.0), (-TINY, 0.0, -TINY, 1.0), (2.0, 0.0, -1.0, 1.0), (0.0, -TINY, 1.0, 5.0), (0.0, 0.0, 1.0, step(1.0, 1)))):
         yield "crop " + text
+    third = 1 / 3
+    for start, extent in ((0.75, step(0.25, 1)), (step(0.25, 1), 0.75), (0.75, 0.25), (TINY, 1.0), (TINY, step(1.0, -1)), (-0.0, 1.0), (1 - third, third), (third, 1 - third)):
+        yield "crop 1 1 %s %s %s %s" % (*map(hex64, (0.0, start, 1.0)), hex64(extent))  # the end, down; 1 - 1/3 and 1/3 is 1 x 1 fitted into 1 x 3
+        yield "crop 1 1 %s %s %s %s" % (hex64(start), zero, hex64(extent), one)
+    for n in (2, 3, 63, 4096, 8191, 8192):
+        for first in (n / 3, 0.75 * n, 2.0**-40):
+            for beside in (-1, 0, 1):
+                for start, extent in ends_of(n, first, beside):
+                    yield "crop %d %d %s %s %s %s" % (n, n, *map(hex64, (start, start, extent, float(n) - start)))
     for w, h in ((0, 1), (1, 0), (8192, 8192), (8193, 1), (1, 8193), (2**32 - 1, 2**32 - 1), (0, 0)):
         yield "crop %d %d %s %s %s %s" % (w, h, zero, zero, one, one)
         yield "crop %d %d %s %s %s %s" % (w, h, hex64(NAN), zero, one, one)

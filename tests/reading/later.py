@@ -1,4 +1,4 @@
-"""What the requests of document 02 change in the reading. Each is a function that puts it in force; `run --with W-204,W-205` calls them, in the order of their numbers.
+"""What the requests of document 02 change in the reading. Each is a function that puts it in force; `run --with W-205,W-206` calls them, in the order of their numbers.
 From W-208 on a request takes W-207 to be in force. When one lands, its lines move to lines.py.
 
 Written from document 02, the decisions on its open points and the protocol alone."""
@@ -10,16 +10,6 @@ import numbers_of_bits as numbers
 import reader
 import weights
 from lines import REQUESTS, SET, LISTS, b64, bytes_of, i16, lent, listed, number, passed, show, u8, u16, u32
-
-
-# W-204: No. 5 compares the exact sum with the side; the far edge that the scale is made of stays rounded.
-
-def past_exactly(start, extent, side):
-    return Fraction(start) + Fraction(extent) > side
-
-
-def w204():
-    weights.past = past_exactly
 
 
 # W-205: u8 rows with the 16-bit store.
@@ -335,4 +325,4 @@ def w214():
 
 
 IN_FORCE = set()
-LANDS = {"W-204": w204, "W-205": w205, "W-206": w206, "W-207": w207, "W-208": w208, "W-209": w209, "W-210": w210, "W-211": w211, "W-213": w213, "W-214": w214}
+LANDS = {"W-205": w205, "W-206": w206, "W-207": w207, "W-208": w208, "W-209": w209, "W-210": w210, "W-211": w211, "W-213": w213, "W-214": w214}

@@ -1,4 +1,7 @@
-"""Filters, crop, fitting and the weight builder. Python's floats are binary64, and each operation is rounded once, in the Rust's order."""
+"""Filters, crop, fitting and the weight builder. Python's floats are binary64, and each operation is rounded once, in the Rust's order; where a crop ends is judged
+by fractions, since W-204."""
+from fractions import Fraction
+
 from numbers_of_bits import ceil, double, finite, floor, pattern
 
 
@@ -46,8 +49,8 @@ def crop(width, height, patterns):
 
 
 def past(start, extent, side):
-    """No. 5 for one axis: the sum is rounded once."""
-    return start + extent > side
+    """No. 5 for one axis: the sum is exact."""
+    return Fraction(start) + Fraction(extent) > side
 
 
 def fit(sw, sh, dw, dh, centring):

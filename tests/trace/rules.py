@@ -2,7 +2,7 @@
 import re
 
 CELLS = ("definition", "contract", "theorem", "edit", "run")
-KINDS = {"history": "tells what the Rust is or does", "explains": "tells how to read the rest", "left": "tells what is left out"}
+KINDS = {"history": "tells what the Rust is or does", "explains": "tells how to read the rest", "left": "tells what is left out", "changed": "document 02 has changed it"}
 
 
 class Rule:

@@ -7,7 +7,8 @@ use lib.Ieee.{lt, le}
 use Rattle.lists.specs.Ranges.{badSides}
 use Rattle.refusal.specs.Refusal.{numberOf as numberOfRefusal}
 use Rattle.refusal.specs.declared.Refusal.the-variants.{BadSide, NotFinite, NegativeExtent, StartOutside, EndOutside}
-use Rattle.floats.specs.Doubles.{isFinite, zero64, double, _plus_}
+use Rattle.floats.specs.Doubles.{isFinite, zero64, double}
+use Rattle.crop_box.specs.End.{endsPast}
 use Rattle.crop_box.specs.declared.CropBox.{CropBox}
 use Rattle.crop_box.specs.declared.Cropped.{Cropped}
 use Rattle.crop_box.specs.declared.Cropped.the-variants.{Inside, Refused}
@@ -24,9 +25,9 @@ negativeExtent b = lt (b .width) zero64 || lt (b .height) zero64
 abbrev pub startOutside : ℕ → ℕ → CropBox → Bool
 startOutside w h b = ((lt (b .left) zero64 || le (double w) (b .left)) || lt (b .top) zero64) || le (double h) (b .top)
 
--- No. 5: left + width, or top + height, past the image side; each sum is rounded once
+-- No. 5: left + width, or top + height, past the image side; each sum is that of the real numbers, and nothing is rounded
 abbrev pub endOutside : ℕ → ℕ → CropBox → Bool
-endOutside w h b = lt (double w) (b .left plus b .width) || lt (double h) (b .top plus b .height)
+endOutside w h b = endsPast (b .left) (b .width) w || endsPast (b .top) (b .height) h
 
 -- the box as it is, or the smallest number that holds
 unfoldable pub cropOf : ℕ → ℕ → CropBox → Cropped

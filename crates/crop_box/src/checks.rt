@@ -1,6 +1,7 @@
 // The checks of `crop`: a function for each row of document 01's table, in its order.
 ghost use mathlib.Core.Path.{_≡_};
 ghost use Rattle.lists.specs.Ranges.{badSides};
+ghost use Rattle.crop_box.specs.End.{FromZero, endsPast};
 ghost use Rattle.crop_box.specs.Crop.{cropOf, notFinite, negativeExtent, startOutside, endOutside};
 use crate::CropBox;
 use crate::Cropped;
@@ -35,11 +36,25 @@ fn start_outside(w: u32, h: u32, b: CropBox) -> bool
     (b.left < 0.0) | (w as f64 <= b.left) | (b.top < 0.0) | (h as f64 <= b.top)
 }
 
-// No. 5: left + width or top + height past the side, each sum rounded once.
+// Whether start + extent is past the side, as real numbers: what the larger of the two leaves of the side is less than the smaller. Where the two reach past the
+// side, the larger is at least half of it, and the difference is exact; where they do not, rounding the difference takes it past no double, the smaller among them.
+fn ends_past(start: f64, extent: f64, side: u32) -> bool
+    requires { ⌜ FromZero start ⌝ ∗ ⌜ FromZero extent ⌝ }
+    ensures answer { λ r. ⌜ r ≡ endsPast start extent side ⌝ }
+{
+    let s = side as f64;
+    if start < extent {
+        return s - extent < start;
+    }
+    s - start < extent
+}
+
+// No. 5: left + width or top + height past the side, for numbers that were judged before.
 fn end_outside(w: u32, h: u32, b: CropBox) -> bool
+    requires { ⌜ FromZero (b .left) ⌝ ∗ ⌜ FromZero (b .width) ⌝ ∗ ⌜ FromZero (b .top) ⌝ ∗ ⌜ FromZero (b .height) ⌝ }
     ensures answer { λ r. ⌜ r ≡ endOutside w h b ⌝ }
 {
-    ((w as f64) < b.left + b.width) | ((h as f64) < b.top + b.height)
+    ends_past(b.left, b.width, w) | ends_past(b.top, b.height, h)
 }
 
 // The box as it is, or the first refusal that applies, for any sides and any four numbers.

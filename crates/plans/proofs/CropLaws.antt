@@ -1,19 +1,22 @@
 -- What a crop that is inside passed, read off the crop's own rows: each axis has a side of 1 to 8,192, finite numbers, a width that is not negative, and
--- edges within the side. Cited by PlanLaws. Assumes nothing.
+-- edges within the side, the far one as it is rounded. Cited by PlanLaws. Assumes nothing.
 use mathlib.Core.Path.{_≡_, sym, ap, _∙_, subst}
-use mathlib.Core.Bool.{true, false, _&&_, _||_}
+use mathlib.Core.Bool.{false, _||_}
 use Prim.Native.Nat.{ℕ}
-use lib.IntN.{pos}
-use borrow.Author.Tests.{not-false}
-use lib.Ieee.{binary64, add, lt, le, ofInt}
+use native.Mathlib.Nat.{le-trans}
+use lib.Dec.{lit≤}
+use lib.Ieee.{lt, le}
 use Rattle.lists.specs.Ranges.{badSides}
-use Rattle.lists.proofs.BoolLaws.{or-left, or-right, and-left, and-right}
+use Rattle.lists.proofs.BoolLaws.{or-left, or-right}
 use Rattle.lists.proofs.RangeLaws.{first-side, second-side}
 use Rattle.crop_box.specs.declared.CropBox.{CropBox}
 use Rattle.crop_box.specs.declared.Cropped.the-variants.{Inside}
 use Rattle.crop_box.specs.Crop.{cropOf, numberOf, boxOf, notFinite, negativeExtent, startOutside, endOutside}
+use Rattle.crop_box.specs.End.{endsPast}
 use Rattle.crop_box.proofs.Rows.{crop-exactly}
-use Rattle.floats.specs.Doubles.{isFinite, zero64}
+use Rattle.crop_box.proofs.FromZero.{all-from-zero}
+use Rattle.crop_box.proofs.EndLaws.{rounded-end}
+use Rattle.floats.specs.Doubles.{zero64, double}
 use Rattle.plans.proofs.Bounds.{Passed}
 
 pub record Both (w h : ℕ) (b : CropBox) : Type 0 where
@@ -22,41 +25,35 @@ pub record Both (w h : ℕ) (b : CropBox) : Type 0 where
 
 both : (w h : ℕ) (b : CropBox) → badSides w h ≡ false → notFinite b ≡ false → negativeExtent b ≡ false → startOutside w h b ≡ false → endOutside w h b ≡ false → Both w h b
 both w h b e1 e2 e3 e4 e5 =
-    let fl = isFinite (b .left) in
-    let ft = isFinite (b .top) in
-    let fw = isFinite (b .width) in
-    let fh = isFinite (b .height) in
-    let four : ((fl && ft) && fw) && fh ≡ true = not-false (((fl && ft) && fw) && fh) e2 in
-    let three : (fl && ft) && fw ≡ true = and-left ((fl && ft) && fw) fh four in
-    let two : fl && ft ≡ true = and-left (fl && ft) fw three in
+    let from = all-from-zero w h b e2 e3 e4 in
+    let wide = first-side w h e1 in
+    let high = second-side w h e1 in
     let a1 = lt (b .left) zero64 in
-    let a2 = le (ofInt binary64 (pos w)) (b .left) in
+    let a2 = le (double w) (b .left) in
     let a3 = lt (b .top) zero64 in
-    let a4 = le (ofInt binary64 (pos h)) (b .top) in
-    let o3 : (a1 || a2) || a3 ≡ false = or-left ((a1 || a2) || a3) a4 e4 in
-    let o2 : a1 || a2 ≡ false = or-left (a1 || a2) a3 o3 in
-    let p1 = lt (ofInt binary64 (pos w)) (add binary64 (b .left) (b .width)) in
-    let p2 = lt (ofInt binary64 (pos h)) (add binary64 (b .top) (b .height)) in
+    let a4 = le (double h) (b .top) in
+    let p1 = endsPast (b .left) (b .width) w in
+    let p2 = endsPast (b .top) (b .height) h in
     record {
       across = record {
-        some = first-side w h e1 .least;
-        few = first-side w h e1 .most;
-        near-finite = and-left fl ft two;
-        width-finite = and-right (fl && ft) fw three;
-        width-up = or-left (lt (b .width) zero64) (lt (b .height) zero64) e3;
-        near-up = or-left a1 a2 o2;
-        near-in = or-right a1 a2 o2;
-        far-in = or-left p1 p2 e5;
+        some = wide .least;
+        few = wide .most;
+        near-finite = from .left .0;
+        width-finite = from .width .0;
+        width-up = from .width .1;
+        near-up = from .left .1;
+        near-in = or-right a1 a2 (or-left (a1 || a2) a3 (or-left ((a1 || a2) || a3) a4 e4));
+        far-in = rounded-end (b .left) (b .width) w (le-trans (wide .most) (lit≤ tt)) (from .left) (from .width) (or-left p1 p2 e5);
       };
       down = record {
-        some = second-side w h e1 .least;
-        few = second-side w h e1 .most;
-        near-finite = and-right fl ft two;
-        width-finite = and-right ((fl && ft) && fw) fh four;
-        width-up = or-right (lt (b .width) zero64) (lt (b .height) zero64) e3;
-        near-up = or-right (a1 || a2) a3 o3;
+        some = high .least;
+        few = high .most;
+        near-finite = from .top .0;
+        width-finite = from .height .0;
+        width-up = from .height .1;
+        near-up = from .top .1;
         near-in = or-right ((a1 || a2) || a3) a4 e4;
-        far-in = or-right p1 p2 e5;
+        far-in = rounded-end (b .top) (b .height) h (le-trans (high .most) (lit≤ tt)) (from .top) (from .height) (or-right p1 p2 e5);
       };
     }
 

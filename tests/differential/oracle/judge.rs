@@ -1,4 +1,4 @@
-//! Ours. The refusals of document 01, in its order: the Rust has only Nos. 3, 4 and 5, and those without their limits.
+//! Ours. The refusals of document 01, in its order, and of document 02: the Rust has only Nos. 3, 4 and 5, and those without their limits.
 //! Nothing here computes a value that an answer shows but the refusal's number and the line of No. 8.
 
 pub const SIDE: u64 = 8_192;
@@ -33,6 +33,14 @@ pub fn crop_before(sides: [u32; 2], numbers: [f64; 4]) -> u32 {
         return 2;
     }
     0
+}
+
+/// 5 by the exact sum, for numbers that the given checks let through: the rounded sum, and what rounding took from it, which is a double (Knuth's two-sum).
+pub fn ends_past(start: f64, extent: f64, side: u32) -> bool {
+    let sum = start + extent;
+    let of_extent = sum - start;
+    let lost = (start - (sum - of_extent)) + (extent - of_extent);
+    sum > side as f64 || (sum == side as f64 && lost > 0.0)
 }
 
 /// 1 and 2 of a fitting.

@@ -82,7 +82,7 @@ fn four(fields: &[&str]) -> Option<[f64; 4]> {
     Some([f64_of(fields[0])?, f64_of(fields[1])?, f64_of(fields[2])?, f64_of(fields[3])?])
 }
 
-/// 1 and 2, then the given 3, then 4 for a place below 0, then the given 4 and 5.
+/// 1 and 2, then the given 3, then 4 for a place below 0, then the given 4 and 5, then 5 by the exact sums.
 fn cropped(sides: [u32; 2], numbers: [f64; 4], bare: bool) -> u32 {
     let given = || theirs::crop(sides, numbers);
     if bare {
@@ -92,6 +92,7 @@ fn cropped(sides: [u32; 2], numbers: [f64; 4], bare: bool) -> u32 {
         0 => match given() {
             3 => 3,
             _ if numbers[0] < 0.0 || numbers[1] < 0.0 => 4,
+            0 if (0..2).any(|axis| judge::ends_past(numbers[axis], numbers[axis + 2], sides[axis])) => 5,
             no => no,
         },
         no => no,

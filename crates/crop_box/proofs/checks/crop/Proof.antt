@@ -1,10 +1,11 @@
 -- `crop` meets its contract. Each return knows the tests that failed before it and the one that held: the ladder of `cropOf`, rewritten by them,
--- is the answer. Assumes nothing.
+-- is the answer. No. 5 is asked of numbers that are finite and not below 0, by the three tests before it. Assumes nothing.
 use borrow.Author.Needs.{needs}
 use Rattle.crop_box.proofs.checks.crop.Statement.{statement}
 use Rattle.crop_box.proofs.checks.crop.Tie as tie
 use mathlib.Core.Path.{_∙_, sym}
 use Rattle.crop_box.specs.Crop.{cropOf}
+use Rattle.crop_box.proofs.FromZero.{all-from-zero}
 
 bad-sides-requires : tie.Need-bad-sides-requires
 bad-sides-requires c κs = search needs
@@ -53,7 +54,16 @@ returns-4 c =
     )
 
 end-outside-requires : tie.Need-end-outside-requires
-end-outside-requires c κs = search needs
+end-outside-requires c κs =
+    let three = c .before .before in
+    let two = three .before .before in
+    let at = two .before .before .before .before .args in
+    let b =
+    all-from-zero (at .w) (at .h) (at .b)
+    (sym (two .before .not-finite .ensures) ∙ two .if2 .left)
+    (sym (three .before .negative-extent .ensures) ∙ three .if3 .left)
+    (sym (c .before .start-outside .ensures) ∙ c .if4 .left) in
+    (b .left, (b .width, (b .top, b .height)))
 
 returns-5 : tie.Need-returns-5
 unfolding cropOf
