@@ -90,12 +90,17 @@ uint32_t mirror_normalize32(uint32_t lines, uint32_t window,
 uint8_t mirror_clip8(int32_t value);
 
 /* The vertical passes over columns first .. first + count - 1 of rows of `row` samples; out has count samples for each window. 0, 1, 10,
- * and 12 for f32. No. 10: as for a normaliser; a source length that is not lines x row; first + count past the row; an output length that
- * is not windows x count; a precision outside 4 to 45. */
+ * for u8 9, and for f32 12. No. 10: as for a normaliser; a source length that is not lines x row; first + count past the row; an output
+ * length that is not windows x count; a precision outside 4 to 45, for u8 4 to 21. No. 9, after 10: 255 times the sizes of a window's
+ * weights in use, and 2^(precision - 1), pass 2^31 - 1. */
 uint32_t mirror_vertical_u16(const uint16_t *src, size_t src_len, uint32_t lines, uint32_t row, uint32_t first, uint32_t count,
                              const int32_t *weights, size_t weights_len, const uint32_t *starts, size_t starts_len,
                              const uint32_t *sizes, size_t sizes_len, uint32_t window, uint32_t precision,
                              uint16_t *out, size_t out_len);
+uint32_t mirror_vertical_u8(const uint8_t *src, size_t src_len, uint32_t lines, uint32_t row, uint32_t first, uint32_t count,
+                            const int16_t *weights, size_t weights_len, const uint32_t *starts, size_t starts_len,
+                            const uint32_t *sizes, size_t sizes_len, uint32_t window, uint32_t precision,
+                            uint8_t *out, size_t out_len);
 uint32_t mirror_vertical_f32(const float *src, size_t src_len, uint32_t lines, uint32_t row, uint32_t first, uint32_t count,
                              const double *weights, size_t weights_len, const uint32_t *starts, size_t starts_len,
                              const uint32_t *sizes, size_t sizes_len, uint32_t window,

@@ -23,6 +23,18 @@ pub fn vertical_u16(frame: &Frame<u16>, set: &Set<i32>, precision: u32, out: &mu
     judged(number, 0)
 }
 
+/// The same of u8 samples, with weights of the 16-bit store: `WeightOutside` where a window's sums could leave 32 bits.
+pub fn vertical_u8(frame: &Frame<u8>, set: &Set<i16>, precision: u32, out: &mut [u8]) -> Result<(), Refusal> {
+    let number = unsafe {
+        raw::mirror_vertical_u8(
+            frame.samples.as_ptr(), frame.samples.len(), set.lines, frame.row, frame.first, frame.count,
+            set.weights.as_ptr(), set.weights.len(), set.starts(), set.starts.len(),
+            set.sizes.as_ptr(), set.sizes.len(), set.window, precision, out.as_mut_ptr(), out.len(),
+        )
+    };
+    judged(number, 0)
+}
+
 /// The same of f32 samples, with weights as doubles.
 pub fn vertical_f32(frame: &Frame<f32>, set: &Set<f64>, out: &mut [f32]) -> Result<(), Refusal> {
     let number = unsafe {

@@ -42,6 +42,11 @@ extern "C" {
         weights: *const i32, weights_len: usize, starts: *const u32, starts_len: usize,
         sizes: *const u32, sizes_len: usize, window: u32, precision: u32, out: *mut u16, out_len: usize,
     ) -> u32;
+    pub fn mirror_vertical_u8(
+        src: *const u8, src_len: usize, lines: u32, row: u32, first: u32, count: u32,
+        weights: *const i16, weights_len: usize, starts: *const u32, starts_len: usize,
+        sizes: *const u32, sizes_len: usize, window: u32, precision: u32, out: *mut u8, out_len: usize,
+    ) -> u32;
     pub fn mirror_vertical_f32(
         src: *const f32, src_len: usize, lines: u32, row: u32, first: u32, count: u32,
         weights: *const f64, weights_len: usize, starts: *const u32, starts_len: usize,

@@ -117,6 +117,19 @@ fn passes_give_rows_10_to_12() {
 }
 
 #[test]
+fn the_byte_pass_clips_and_judges_its_weights() {
+    let column = |weights: &[i16], samples: &[u8], precision| {
+        let (lines, mut out) = (samples.len() as u32, [7]);
+        let frame = Frame { samples, row: 1, first: 0, count: 1 };
+        vertical_u8(&frame, &set(lines, weights, &[lines]), precision, &mut out).map(|()| out[0])
+    };
+    assert_eq!(column(&[-4, 24, -4], &[100, 200, 100], 4), Ok(250));
+    assert_eq!((column(&[-4, 24, -4], &[255, 0, 255], 4), column(&[-4, 24, -4], &[0, 255, 0], 4)), (Ok(0), Ok(255)));
+    assert_eq!((column(&[-32768; 257], &[255; 257], 15), column(&[-32768; 257], &[0; 257], 16)), (Ok(0), Err(Refusal::WeightOutside)));
+    assert_eq!(column(&[-32768; 257], &[255; 257], 22), Err(Refusal::DoesNotFit));
+}
+
+#[test]
 fn alpha_gives_rows_1_to_6() {
     let with = |f: fn(&[u8], &mut [u8]) -> Result<(), Refusal>, colour, alpha| {
         let mut out = [7; 4];

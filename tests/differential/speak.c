@@ -329,6 +329,20 @@ static int pass(char **w, int floats)
     return 1;
 }
 
+static int pass8(char **w)
+{
+    uint32_t n[6];
+    for (int i = 0; i < 6; i++)
+        OR_BAD(u32_of(w[i + 1], &n[i]));
+    struct list *ws = read_list('h', w[7], 1), *starts = ws ? read_list('u', w[8], 1) : NULL, *sizes = starts ? read_list('u', w[9], 1) : NULL;
+    struct list *src = sizes ? read_list('c', w[10], 1) : NULL, *out = src ? lend('c', w[11]) : NULL;
+    OR_BAD(out);
+    printf("%" PRIu32, mirror_vertical_u8(at(src), src->count, n[0], n[1], n[2], n[3], at(ws), ws->count, at(starts), starts->count, at(sizes),
+                                          sizes->count, n[4], n[5], at(out), out->count));
+    show('c', out);
+    return 1;
+}
+
 static int alpha(char **w, int words)
 {
     int divide = w[0][0] == 'd', in_place = words == 2;
@@ -442,6 +456,8 @@ static int answer(char **w, int words)
         return normalize(w);
     if (words == 12 && strcmp(w[0], "u16pass") == 0)
         return pass(w, 0);
+    if (words == 12 && strcmp(w[0], "u8pass") == 0)
+        return pass8(w);
     if (words == 11 && strcmp(w[0], "f32pass") == 0)
         return pass(w, 1);
     if ((words == 3 && one_of(w[0], "mul8 div8")) || (words == 2 && one_of(w[0], "mul8in div8in")))

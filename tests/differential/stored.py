@@ -342,8 +342,55 @@ def passes(r):
     for _ in range(50):
         yield u16pass(r)
         yield f32pass(r)
+    yield from bytes_passes(random.Random(SEED + 8))
     yield from ("u16pass 1 1 0 1 1 4 16 0 1 65536 1", "u16pass 1 1 0 1 1 4 2147483648 0 1 1 1", "u16pass 1 1 0 1 1 4 16 0 1 1", "f32pass 1 1 0 1 1 3ff0000000000000 0 1 3ff0000000000000 1",
                 "f32pass 1 1 0 1 1 3ff0000000000000 0 1 3f800000 1 1", "u16pass 1 1 0 1 1 4 16 0 1 -1 1", "")
+
+
+def bytes_passes(r):
+    def u8(lines, row, first, count, window, precision, weights, starts, sizes, samples, out=None):
+        out = len(starts) * count if out is None else out
+        return "u8pass %d %d %d %d %d %d %s %s %s %s %d" % (
+            lines, row, first, count, window, precision, joined(weights), joined(starts), joined(sizes), joined(samples), out)
+    for samples in ((100, 200, 100), (255, 0, 255), (0, 255, 0)):
+        yield u8(3, 1, 0, 1, 3, 4, [-4, 24, -4], [0], [3], samples)
+    for samples in ((1, 0), (0, 1), (1, 1)):
+        yield u8(2, 1, 0, 1, 2, 4, [8, 8], [0], [2], samples)
+    for row in (1, 31, 32, 33, 65):  # around the chunk
+        for first, count in ((0, row), (0, 0), (row, 0), (row - 1, 1), (0, row - 1)):
+            yield u8(2, row, first, count, 2, 14, [12000, 4384, -3000, 19384], [0, 0], [2, 2], [r.randint(0, 255) for _ in range(2 * row)])
+    for n, precisions in ((256, (4, 16, 21)), (257, range(3, 23)), (258, (4, 15))):  # 257 weights of -32768 have room up to precision 15
+        for weight in (-32768, 32767):
+            for precision in precisions:
+                yield u8(n, 1, 0, 1, n, precision, [weight] * n, [0], [n], [255] * n)
+    for precision in (4, 15, 21):  # the last weight takes what is left, or one more
+        left = (2**31 - 1 - 2 ** (precision - 1)) // 255
+        for k in (0, 1):
+            many = [32767] * (left // 32767) + [left % 32767 + k]
+            yield u8(len(many), 1, 0, 1, len(many), precision, many, [0], [len(many)], [255] * len(many))
+            many = [-w for w in many]
+            yield u8(len(many), 1, 0, 1, len(many), precision, many, [0], [len(many)], [255] * len(many))
+            yield u8(len(many), 1, 0, 1, len(many) + 1, precision, many + [-32768], [0], [len(many)], [0] * len(many))  # an idle weight
+    heavy = [-32768] * 258
+    yield u8(258, 1, 0, 1, 258, 4, [0] * 258 + heavy, [0, 0], [1, 258], [0] * 258)  # the second window
+    yield u8(258, 1, 0, 1, 258, 22, heavy, [0], [258], [0] * 258)                   # 10 before 9
+    yield u8(258, 1, 0, 1, 258, 4, heavy, [1], [258], [0] * 258)
+    yield u8(258, 0, 0, 1, 258, 4, heavy, [0], [258], [0] * 258)                    # 1 before both
+    good = (3, 2, 0, 2, 2, 14, [1] * 4, [0, 1], [2, 2], [7] * 6, 4)
+    places = {0: (0, 8193, 2, 4), 1: (0, 32769, 1, 3), 2: (1, 2**32 - 1), 3: (1, 3), 4: (0, 1, 3, 32770), 5: (0, 3, 22, 45, 2**32 - 1), 6: ([1] * 3, [1] * 5, []),
+              7: ([0], [], [0, 2]), 8: ([2], [], [2, 0], [2, 3]), 9: ([7] * 5, [7] * 7, []), 10: (0, 3, 5)}
+    yield u8(*good)
+    for place, values in places.items():
+        for v in values:
+            one = list(good)
+            one[place] = v
+            yield u8(*one)
+    for _ in range(60):
+        line = u8pass(r)
+        while len(line) > 1500:
+            line = u8pass(r)
+        yield line
+    yield from ("u8pass 1 1 0 1 1 4 16 0 1 256 1", "u8pass 1 1 0 1 1 4 32768 0 1 1 1", "u8pass 1 1 0 1 1 4 16 0 1 1", "u8pass 1 1 0 1 1 4 16 0 1 -1 1", "u8pass")
 
 
 def sheet_group(r):

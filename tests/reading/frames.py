@@ -69,6 +69,19 @@ def u16_pass(lines, row, first, count, window, precision, weights, starts, sizes
     return 0
 
 
+def u8_pass(lines, row, first, count, window, precision, weights, starts, sizes, samples, out):
+    no = shape(lines, row, first, count, window, len(weights), starts, sizes, len(samples), len(out))
+    if no or not 4 <= precision <= 21:
+        return no or 10
+    half = 2 ** (precision - 1)
+    for i, n in enumerate(sizes):
+        if 255 * sum(map(abs, weights[i * window:i * window + n])) + half > 2**31 - 1:
+            return 9
+    for at, places in enumerate(used(row, first, count, window, starts, sizes)):
+        out[at] = min(max(sum((weights[w] * samples[x] for w, x in places), half) // 2**precision, 0), 255)
+    return 0
+
+
 def f32_pass(lines, row, first, count, window, weights, starts, sizes, samples, out):
     no = shape(lines, row, first, count, window, len(weights), starts, sizes, len(samples), len(out))
     if no:

@@ -1,4 +1,4 @@
-"""What the requests of document 02 change in the reading. Each is a function that puts it in force; `run --with W-205,W-206` calls them, in the order of their numbers.
+"""What the requests of document 02 change in the reading. Each is a function that puts it in force; `run --with W-206,W-207` calls them, in the order of their numbers.
 From W-208 on a request takes W-207 to be in force. When one lands, its lines move to lines.py.
 
 Written from document 02, the decisions on its open points and the protocol alone."""
@@ -10,25 +10,6 @@ import numbers_of_bits as numbers
 import reader
 import weights
 from lines import REQUESTS, SET, LISTS, b64, bytes_of, i16, lent, listed, number, passed, show, u8, u16, u32
-
-
-# W-205: u8 rows with the 16-bit store.
-
-def u8_pass(count_of_lines, row, first, count, window, precision, ws, starts, sizes, samples, out):
-    no = frames.shape(count_of_lines, row, first, count, window, len(ws), starts, sizes, len(samples), len(out))
-    if no or not 4 <= precision <= 21:
-        return no or 10
-    half = 2 ** (precision - 1)
-    for i, n in enumerate(sizes):
-        if 255 * sum(map(abs, ws[i * window:i * window + n])) + half > 2**31 - 1:
-            return 9
-    for at, places in enumerate(frames.used(row, first, count, window, starts, sizes)):
-        out[at] = min(max(sum((ws[w] * samples[x] for w, x in places), half) // 2**precision, 0), 255)
-    return 0
-
-
-def w205():
-    REQUESTS["u8pass"] = ((u32,) * 6 + (listed(i16),) + LISTS + (listed(u8), lent()), passed(u8_pass, "%d"))
 
 
 # W-206: narrowing says whether its result is infinite, and the f32 pass how many samples are.
@@ -113,7 +94,7 @@ def w207():
     for name, store in (("norm16", (22, 15)), ("norm32", (46, 31))):
         REQUESTS[name] = (SET + (listed(b64),) + LISTS + (lent(), lent()), normalized(*store))
     REQUESTS["u16pass"] = ((u32,) * 6 + (listed(lines.i32),) + LISTS + (EXCESSES, listed(u16), lent()), passed(knows_excesses(frames.u16_pass), "%d"))
-    REQUESTS["u8pass"] = ((u32,) * 6 + (listed(i16),) + LISTS + (EXCESSES, listed(u8), lent()), passed(knows_excesses(u8_pass), "%d"))
+    REQUESTS["u8pass"] = ((u32,) * 6 + (listed(i16),) + LISTS + (EXCESSES, listed(u8), lent()), passed(knows_excesses(frames.u8_pass), "%d"))
     lines.SHEET = ((EXCESSES, lent(524288)), sheet)
     for name, stores in (("read", (16, 32)), ("read16", (16,))):
         REQUESTS[name] = ((bytes_of,) + (lent(),) * 4, was_read_whole(stores))
@@ -325,4 +306,4 @@ def w214():
 
 
 IN_FORCE = set()
-LANDS = {"W-205": w205, "W-206": w206, "W-207": w207, "W-208": w208, "W-209": w209, "W-210": w210, "W-211": w211, "W-213": w213, "W-214": w214}
+LANDS = {"W-206": w206, "W-207": w207, "W-208": w208, "W-209": w209, "W-210": w210, "W-211": w211, "W-213": w213, "W-214": w214}

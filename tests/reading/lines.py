@@ -117,6 +117,7 @@ REQUESTS |= {
     "build": ((kind, flag, flag, u32, u32, u32) + (b64,) * 4 + (doubles, lent(), lent()), built),
     "norm16": (SET + (listed(b64),) + LISTS + (lent(),), normalized(22, 15)), "norm32": (SET + (listed(b64),) + LISTS + (lent(),), normalized(46, 31)),
     "u16pass": ((u32,) * 6 + (listed(i32),) + LISTS + (listed(u16), lent()), passed(frames.u16_pass, "%d")),
+    "u8pass": ((u32,) * 6 + (listed(i16),) + LISTS + (listed(u8), lent()), passed(frames.u8_pass, "%d")),
     "f32pass": ((u32,) * 5 + (listed(b64),) + LISTS + (listed(b32), lent(made=lambda v: numbers.narrow(numbers.pattern(float(v))))), passed(frames.f32_pass, "%08x")),
     "mul8": ((listed(u8), lent()), pixels(frames.multiplied)), "div8": ((listed(u8), lent()), pixels(frames.divided)),
     "mul8in": ((listed(u8),), pixels(frames.multiplied)), "div8in": ((listed(u8),), pixels(frames.divided)),

@@ -1,7 +1,7 @@
 /* driver CASE SIDE RUNS: runs one function RUNS times on inputs that depend on the case alone, and says what it wrote.
  * SIDE is `rust` (the given Rust, given.rs) or `port` (the static library, mirror.h). A function that the library does not have
- * is answered by `missing`. Cases: multiply, multiply_in, divide, divide_in, the same with 16; u16_N or f32_N for windows of N lines, u16_N_C for frames of C columns; build, norm16,
- * norm32. */
+ * is answered by `missing`. Cases: multiply, multiply_in, divide, divide_in, the same with 16; u16_N, u8_N or f32_N for windows of N lines, u16_N_C for frames of C columns; build, norm16,
+ * norm32. The Rust of u8_N is ours, written as the given u16 pass is. */
 #include <inttypes.h>
 #include <stdio.h>
 #include <stdlib.h>
@@ -13,6 +13,7 @@
 #pragma weak mirror_normalize16
 #pragma weak mirror_normalize32
 #pragma weak mirror_vertical_u16
+#pragma weak mirror_vertical_u8
 #pragma weak mirror_vertical_f32
 #pragma weak mirror_multiply_u8x4
 #pragma weak mirror_multiply_u8x4_inplace
@@ -29,6 +30,8 @@ extern size_t given_written(const struct job *, uint8_t *);
 extern struct job *given_alpha(uint32_t divide, uint32_t in_place, const uint8_t *, size_t);
 extern struct job *given_alpha16(uint32_t divide, uint32_t in_place, const uint16_t *, size_t);
 extern struct job *given_u16(uint32_t kind, uint32_t side, uint32_t out, uint32_t row, const uint16_t *);
+extern struct job *given_u8(uint32_t side, uint32_t out, uint32_t row, const uint8_t *, uint32_t window, uint32_t precision, const int16_t *, const uint32_t *,
+                            const uint32_t *);
 extern struct job *given_f32(uint32_t kind, uint32_t side, uint32_t out, uint32_t row, const float *);
 extern struct job *given_build(uint32_t kind, uint32_t side, uint32_t out, uint32_t runs);
 extern struct job *given_normalize(uint32_t bits, uint32_t kind, uint32_t side, uint32_t out, uint32_t runs);
@@ -168,6 +171,26 @@ static void pass(int floats, int taps, uint32_t row, int port, int runs)
     end(items * (floats ? 4 : 2), items, no);
 }
 
+static void bytes(int taps, uint32_t row, int port, int runs)
+{
+    uint32_t kind, side, out, precision, no = 0;
+    shape(taps, &kind, &side, &out);
+    size_t samples = (size_t)side * row, items = (size_t)out * row;
+    uint8_t *whole = malloc(samples);
+    for (size_t i = 0; i < samples; i++)
+        whole[i] = (uint8_t)next();
+    missing_if(!mirror_vertical_u8 || !mirror_normalize16);
+    uint32_t window = given_set(kind, side, out, slots, starts, sizes);
+    size_t count = (size_t)window * out;
+    if (mirror_normalize16(side, window, slots, count, starts, out, sizes, out, made16, count, &precision) != MIRROR_DONE)
+        exit(2);
+    if (!port)
+        given(given_u8(side, out, row, whole, window, precision, made16, starts, sizes), runs, items);
+    for (int i = 0; i < runs; i++)
+        no = mirror_vertical_u8(whole, samples, side, row, 0, row, made16, count, starts, out, sizes, out, window, precision, written, items);
+    end(items, items, no);
+}
+
 static void build(uint32_t kind, uint32_t side, uint32_t out, int port, int runs)
 {
     uint32_t window = given_set(kind, side, out, slots, starts, sizes), line, no = 0;
@@ -214,6 +237,8 @@ int main(int argc, char **argv)
         alpha(name, port, runs);
     if (sscanf(name, "u16_%d_%d", &taps, &columns) >= 1)
         pass(0, taps, (uint32_t)columns, port, runs);
+    if (sscanf(name, "u8_%d_%d", &taps, &columns) >= 1)
+        bytes(taps, columns, port, runs);
     if (sscanf(name, "f32_%d_%d", &taps, &columns) >= 1)
         pass(1, taps, (uint32_t)columns, port, runs);
     if (strcmp(name, "build_box") == 0)

@@ -40,6 +40,7 @@ pub enum Job {
     Alpha16 { divide: bool, src: Frame<U16x4>, dst: FrameMut<U16x4> },
     Alpha16InPlace { divide: bool, view: FrameMut<U16x4> },
     U16 { src: Frame<U16>, dst: FrameMut<U16>, weights: Normalizer32 },
+    U8 { src: Vec<u8>, row: usize, dst: Vec<u8>, precision: u32, rows: Vec<(usize, Vec<i16>)> },
     F32 { src: Frame<F32>, dst: FrameMut<F32>, weights: Coefficients },
     Build { kind: FilterType, side: u32, out: u32, made: Vec<Coefficients> },
     Normalize16 { sets: Vec<Coefficients>, made: Vec<Normalizer16> },
@@ -72,6 +73,7 @@ pub unsafe extern "C" fn given_run(job: *mut Job) {
         Job::Alpha16InPlace { divide: false, view } => native16::multiply_alpha_inplace(view),
         Job::Alpha16InPlace { divide: true, view } => native16::divide_alpha_inplace(view),
         Job::U16 { src, dst, weights } => Door::PASS_U16_BY(src, dst, 0, weights),
+        Job::U8 { src, row, dst, precision, rows } => bytes(src, *row, dst, *precision, rows),
         Job::F32 { src, dst, weights } => Door::PASS_F32_BY(src, dst, 0, weights),
         Job::Build { kind, side, out, made } => made.push(built(*kind, *side, *out)),
         Job::Normalize16 { sets, made } => made.push(Door::NEW16(sets.pop().unwrap())),
@@ -125,6 +127,48 @@ pub unsafe extern "C" fn given_u16(kind: u32, side: u32, out: u32, row: u32, src
     job(Job::U16 { src, dst, weights: Door::NEW32(built(kind_of(kind), side, out)) })
 }
 
+/// Not given: document 02's rule for bytes (W-205), written as the given u16 pass is, sixteen columns at a time.
+fn bytes(src: &[u8], row: usize, dst: &mut [u8], precision: u32, rows: &[(usize, Vec<i16>)]) {
+    let half = 1i32 << (precision - 1);
+    for ((start, ks), to) in rows.iter().zip(dst.chunks_exact_mut(row)) {
+        let mut x = 0;
+        let mut chunks = to.chunks_exact_mut(16);
+        for chunk in &mut chunks {
+            let mut ss = [half; 16];
+            for (&k, line) in ks.iter().zip(src[start * row..].chunks_exact(row)) {
+                for (s, &c) in ss.iter_mut().zip(&line[x..x + 16]) {
+                    *s += c as i32 * k as i32;
+                }
+            }
+            for (d, s) in chunk.iter_mut().zip(ss) {
+                *d = (s >> precision).clamp(0, 255) as u8;
+            }
+            x += 16;
+        }
+        for d in chunks.into_remainder() {
+            let mut s = half;
+            for (&k, line) in ks.iter().zip(src[start * row..].chunks_exact(row)) {
+                s += line[x] as i32 * k as i32;
+            }
+            *d = (s >> precision).clamp(0, 255) as u8;
+            x += 1;
+        }
+    }
+}
+
+/// # Safety
+/// `src` has `side * row` samples; the set has `out` windows of `window` slots.
+#[no_mangle]
+pub unsafe extern "C" fn given_u8(
+    side: u32, out: u32, row: u32, src: *const u8, window: u32, precision: u32, weights: *const i16, starts: *const u32, sizes: *const u32,
+) -> *mut Job {
+    let (row, out, window) = (row as usize, out as usize, window as usize);
+    let (starts, sizes) = (slice::from_raw_parts(starts, out), slice::from_raw_parts(sizes, out));
+    let weights = slice::from_raw_parts(weights, out * window);
+    let rows = (0..out).map(|i| (starts[i] as usize, weights[i * window..i * window + sizes[i] as usize].to_vec())).collect();
+    job(Job::U8 { src: slice::from_raw_parts(src, side as usize * row).to_vec(), row, dst: vec![0; out * row], precision, rows })
+}
+
 /// # Safety
 /// `src` has `side * row` samples.
 #[no_mangle]
@@ -175,6 +219,7 @@ pub unsafe extern "C" fn given_written(job: *const Job, to: *mut u8) -> usize {
         Job::Alpha { dst: view, .. } | Job::AlphaInPlace { view, .. } => laid(view.pixels.iter().map(|p| p.0), to),
         Job::Alpha16 { dst: view, .. } | Job::Alpha16InPlace { view, .. } => laid(view.pixels.iter().map(|p| p.0), to),
         Job::U16 { dst, .. } => laid(dst.pixels.iter().map(|p| p.0), to),
+        Job::U8 { dst, .. } => laid(dst.iter().copied(), to),
         Job::F32 { dst, .. } => laid(dst.pixels.iter().map(|p| p.0), to),
         Job::Build { made, .. } => {
             let set = made.last().unwrap();

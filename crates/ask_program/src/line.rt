@@ -131,6 +131,28 @@ fn frames(line: &[u8], a: Said, out: &mut [u8]) -> Said {
     )
 }
 
+// The lists of `ask_passes_u8::answer`, and nothing else: one call.
+fn byte_frames(line: &[u8], a: Said, out: &mut [u8]) -> Said {
+    if a.done {
+        return a;
+    }
+    let mut narrow = [0i16; 131072];
+    let mut starts = [0u32; 131072];
+    let mut sizes = [0u32; 131072];
+    let mut samples = [0u8; 131072];
+    let mut columns = [0u8; 131072];
+    ask_passes_u8::answer(
+        line,
+        a,
+        out,
+        &mut narrow,
+        &mut starts,
+        &mut sizes,
+        &mut samples,
+        &mut columns,
+    )
+}
+
 // The lists of `ask_passes::answer_f32`, and nothing else: one call.
 fn float_frames(line: &[u8], a: Said, out: &mut [u8]) -> Said {
     if a.done {
@@ -219,10 +241,11 @@ fn early(line: &[u8], a: Said, out: &mut [u8]) -> Said {
 // The rest of them.
 fn late(line: &[u8], a: Said, out: &mut [u8]) -> Said {
     let b = frames(line, a, out);
-    let c = float_frames(line, b, out);
-    let d = sheets(line, c, out);
-    let e = readings(line, d, out);
-    narrow_readings(line, e, out)
+    let c = byte_frames(line, b, out);
+    let d = float_frames(line, c, out);
+    let e = sheets(line, d, out);
+    let f = readings(line, e, out);
+    narrow_readings(line, f, out)
 }
 
 // The answer to the line at s.at .. s.to, if there is one; the output's place behind it.

@@ -1,13 +1,14 @@
--- The steps of the 16-bit clip: 0 below, 65535 above, the number itself between. y is what the machine reads back for z.
--- Cited by `at_least`, `at_most` and `clip16`. Assumes nothing.
+-- The steps of a clip to 0 .. M: 0 below, M above, the number itself between. y is what the machine reads back for z.
+-- Cited by the clips that compare, `clip16` and `clamp8`, and their parts. Assumes nothing.
 use mathlib.Core.Path.{_≡_, refl, sym, ap, _∙_}
 use mathlib.Core.Bool.{true, false}
-use Prim.Native.Nat.{ℕ}
+use Prim.Native.Nat.{ℕ, _≤_}
+use native.Mathlib.Nat.{le-refl}
 use native.Mathlib.Omega.{arith}
 use lib.Dec.{T}
 use lib.IntN.{ℤ, pos, negsuc, natAbs}
 use lib.Signed.{ltZ, nonNeg}
-use mir.Syntax.{w16}
+use mir.Syntax.{Width, w8, w16}
 use mir.Val.{Fits}
 use borrow.Author.Tests.{ltb-true, ltb-false}
 use Rattle.lists.proofs.BoolLaws.{never}
@@ -25,15 +26,22 @@ unfolding natural
 not-below (pos n) h = refl
 not-below (negsuc n) h = never h
 
-not-above : (z : ℤ) → ltZ (pos 65535) z ≡ false → z ≡ pos (natural z) → natAbs z ≡ clipped 65535 z
+not-above : (M : ℕ) (z : ℤ) → ltZ (pos M) z ≡ false → z ≡ pos (natural z) → natAbs z ≡ clipped M z
 unfolding natural clipped
-not-above (pos n) h e = omega (arith, ltb-false 65535 n h)
-not-above (negsuc n) h e = never (sym (ap nonNeg e))
+not-above M (pos n) h e = omega (arith, ltb-false M n h)
+not-above M (negsuc n) h e = never (sym (ap nonNeg e))
 
-inside : (z : ℤ) → ltZ (pos 65535) z ≡ false → z ≡ pos (natural z) → T (nonNeg z) × Fits w16 (natAbs z)
+inside : (M : ℕ) (w : Width) → ((n : ℕ) → n ≤ M → Fits w n) → (z : ℤ) → ltZ (pos M) z ≡ false → z ≡ pos (natural z) → T (nonNeg z) × Fits w (natAbs z)
 unfolding natural
-inside (pos n) h e = (tt, record { fits = omega (arith, ltb-false 65535 n h) })
-inside (negsuc n) h e = never (sym (ap nonNeg e))
+inside M w f (pos n) h e = (tt, f n (ltb-false M n h))
+inside M w f (negsuc n) h e = never (sym (ap nonNeg e))
+
+-- the largest samples are those of their types
+pub fits16 : (n : ℕ) → n ≤ 65535 → Fits w16 n
+fits16 n h = record { fits = omega arith }
+
+pub fits8 : (n : ℕ) → n ≤ 255 → Fits w8 n
+fits8 n h = record { fits = omega arith }
 
 module _ {y z : ℤ} (e : y ≡ z) where
   pub least-zero : ltZ y (pos 0) ≡ true → pos 0 ≡ pos (natural z)
@@ -42,14 +50,14 @@ module _ {y z : ℤ} (e : y ≡ z) where
   pub least-same : ltZ y (pos 0) ≡ false → y ≡ pos (natural z)
   least-same h = e ∙ not-below z (rw e at h)
 
-  pub most-top : ltZ (pos 65535) y ≡ true → 65535 ≡ clipped 65535 z
-  most-top h = sym (clipped-high 65535 65535 z (omega arith) (rw e at h))
+  pub most-top : (M : ℕ) → ltZ (pos M) y ≡ true → M ≡ clipped M z
+  most-top M h = sym (clipped-high M M z (le-refl M) (rw e at h))
 
-  pub most-same : ltZ (pos 65535) y ≡ false → z ≡ pos (natural z) → natAbs y ≡ clipped 65535 z
-  most-same h p = ap natAbs e ∙ not-above z (rw e at h) p
+  pub most-same : (M : ℕ) → ltZ (pos M) y ≡ false → z ≡ pos (natural z) → natAbs y ≡ clipped M z
+  most-same M h p = ap natAbs e ∙ not-above M z (rw e at h) p
 
-  pub most-fits : ltZ (pos 65535) y ≡ false → z ≡ pos (natural z) → T (nonNeg y) × Fits w16 (natAbs y)
-  most-fits h p = rw e (inside z (rw e at h) p)
+  pub most-fits : (M : ℕ) (w : Width) → ((n : ℕ) → n ≤ M → Fits w n) → ltZ (pos M) y ≡ false → z ≡ pos (natural z) → T (nonNeg y) × Fits w (natAbs y)
+  most-fits M w f h p = rw e (inside M w f z (rw e at h) p)
 
 -- a number from 0 on is its own natural number
 pub natural-same : {y : ℤ} {n : ℕ} → y ≡ pos n → y ≡ pos (natural y)

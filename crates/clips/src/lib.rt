@@ -1,5 +1,5 @@
-// `clips`: a sum that is already shifted, clipped to a sample. `clip8` reads CLIP8_LOOKUPS as the Rust does, after a test of the range; `clip16` is the
-// clip of the u16 pass. Both are `clipped M` of `integers`, M being the largest sample.
+// `clips`: a sum that is already shifted, clipped to a sample. `clip8` reads CLIP8_LOOKUPS as the Rust does, after a test of the range; `clamp8` gives the same
+// without the table, for the u8 pass; `clip16` is the clip of the u16 pass. All are `clipped M` of `integers`, M being the largest sample.
 mod table;
 
 ghost use mathlib.Core.Path.{_≡_};
@@ -21,6 +21,13 @@ pub fn clip8(v: i32) -> u8
         return 255;
     }
     lookup((v + 640) as usize)
+}
+
+// v clipped to 0 .. 255, for any i32: what `clip8` gives, by a maximum and a minimum, which take sixteen columns at once where the table takes one.
+pub fn clamp8(v: i32) -> u8
+    ensures answer { λ r. ⌜ r ≡ clipped 255 v ⌝ }
+{
+    at_most8(at_least8(v))
 }
 
 // v clipped to 0 .. 65535, for any i64. A maximum and a minimum, which compile to no branch.
@@ -59,4 +66,18 @@ fn at_most(v: i64) -> u16
     ensures { λ r. ⌜ r ≡ clipped 65535 v ⌝ }
 {
     if v > 65535 { 65535 } else { v as u16 }
+}
+
+// The same two for the clip to 0 .. 255.
+fn at_least8(v: i32) -> i32
+    ensures { λ r. ⌜ r ≡ pos (natural v) ⌝ }
+{
+    if v < 0i32 { 0 } else { v }
+}
+
+fn at_most8(v: i32) -> u8
+    requires { ⌜ v ≡ pos (natural v) ⌝ }
+    ensures { λ r. ⌜ r ≡ clipped 255 v ⌝ }
+{
+    if v > 255 { 255 } else { v as u8 }
 }

@@ -43,6 +43,7 @@ use Rattle.vertical.specs.declared.PassedF32.the-variants as passed-f32
 use Rattle.vertical.specs.PassedF32.{after as after-f32, numberOf as numberOfPassedF32}
 use Rattle.vertical.specs.U16.{passedU16, writtenU16}
 use Rattle.vertical.specs.F32.{passedF32, writtenF32}
+use Rattle.vertical_u8.specs.U8.{passedU8, writtenU8}
 use Rattle.sheet.specs.declared.Sheet.the-variants as sheet
 use Rattle.sheet.specs.Answer.{noRoom, byCase, numberOf as numberOfSheet}
 use Rattle.sheet.specs.Text.{sheetText}
@@ -135,7 +136,7 @@ sheet-kept false false true n written old n0 = refl
 sheet-kept false false false n written old n0 = absurd (n0 refl)
 
 pub refused-unchanged : RefusedUnchanged
-unfolding writtenOf writtenU16 writtenF32 multipliedList dividedList multipliedList16 dividedList16 byCase
+unfolding writtenOf writtenU16 writtenU8 writtenF32 multipliedList dividedList multipliedList16 dividedList16 byCase
 refused-unchanged = record {
   build = λ q ws ss zs n0 n8. (
     kept-as ws (λ p. weightsIn p ws) (length ws) (length ss) (length zs) (planOf q) n0 n8,
@@ -145,6 +146,7 @@ refused-unchanged = record {
   build-8 = λ q ws ss zs h. zeroed-at q ws ss zs (planOf q) refl (plan-not-8 q) h;
   normalize = λ store s out n0. normalized-kept store s (normalizedOf store s (length out)) out n0;
   pass-u16 = λ s src row first count out n0. passed-kept (passedU16 s (length src) row first count (length out)) _ out n0;
+  pass-u8 = λ s src row first count out n0. passed-kept (passedU8 s (length src) row first count (length out)) _ out n0;
   pass-f32 = λ s src row first count out n0. passed-kept-f32 (passedF32 s src row first count (length out)) _ out n0;
   multiply = λ src out n0. applied-kept (badLists (length src) (length out)) _ out n0;
   divide = λ src out n0. applied-kept (badLists (length src) (length out)) _ out n0;

@@ -1,4 +1,3 @@
-pub mod ReadBack
 pub mod Sizes
 pub mod Exact
 pub mod Rounded

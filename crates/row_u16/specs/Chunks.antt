@@ -6,10 +6,8 @@ use Prim.Native.Nat.{ℕ, _+_, _*_, _%_, _^_}
 use lib.IntN.{ℤ, pos, _+ℤ_, _*ℤ_}
 use lib.Ieee.{Float, binary64, nan, add, lt, ofBits, toBits}
 use lib.ListN.{getD}
-use lib.Signed.{shrZ}
 use Rattle.floats.specs.Doubles.{half64}
 use Rattle.floats.specs.Halves.{halves}
-use Rattle.integers.specs.Sums.{clipped}
 use Rattle.vertical.specs.Column.{columnSum}
 
 -- sum t with a line's part added: weight w, samples from `at` on; and with n lines'
@@ -18,10 +16,6 @@ stepAt ss w src at t = getD ss t (pos 0) +ℤ w *ℤ pos (getD src (at + t) 0)
 
 abbrev pub summedAt : List ℤ → List ℤ → List ℕ → ℕ → ℕ → ℕ → ℕ → ℤ
 summedAt ss ws src at row n t = getD ss t (pos 0) +ℤ columnSum ws src (at + t) row n
-
--- sum t, which has the half of 2^p in it, made a sample
-abbrev pub clippedAt : List ℤ → ℕ → ℕ → ℕ
-clippedAt ss p t = clipped 65535 (shrZ (getD ss t (pos 0)) (2 ^ p))
 
 -- the double nearest to z + 1/2
 abbrev pub halfMore : ℤ → Float

@@ -9,14 +9,13 @@ ghost use Prim.Native.Nat.{ℕ, _+_, _*_, _-_, _^_, _<_, _≤_};
 ghost use lib.IntN.{pos};
 ghost use lib.ListN.{length, getD};
 ghost use Rattle.lists.specs.Tab.{tab, front};
-ghost use Rattle.vertical.specs.Column.{rowValue};
-ghost use Rattle.row_u16.specs.Chunks.{clippedAt};
+ghost use Rattle.vertical.specs.Column.{rowValue, clippedAt};
 
 // Sums made samples, as many as `out` has places for.
 fn put_columns(ss: &[i64], p: u32, out: &mut [u16])
     requires { ⌜ p < 64 ⌝ }
     requires { ⌜ length (now out) ≤ length (now ss) ⌝ }
-    ensures { λ _. ⌜ now (out .exit) ≡ tab 0 (length (now (out .entry))) (clippedAt (now (ss .entry)) p) ⌝ }
+    ensures { λ _. ⌜ now (out .exit) ≡ tab 0 (length (now (out .entry))) (clippedAt 65535 (now (ss .entry)) p) ⌝ }
 {
     let mut t: usize = 0;
     while t < out.len() {

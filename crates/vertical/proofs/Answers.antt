@@ -28,7 +28,7 @@ abbrev done : Passed → Bool
 done passed.Done = true
 done (passed.Refused r) = false
 
-refused : {r : Refusal} → passed.Refused r ≡ passed.Done → ⊥
+pub refused : {r : Refusal} → passed.Refused r ≡ passed.Done → ⊥
 refused h = never (sym (ap done h))
 
 abbrev done-f32 : PassedF32 → Bool

@@ -1,6 +1,9 @@
 pub mod Answers
 pub mod Columns
 pub mod Turns
+pub mod Values
+pub mod ColumnLaws
+pub mod ReadBack
 pub mod Table
 pub mod Sure
 pub mod Rows

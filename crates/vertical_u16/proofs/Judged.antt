@@ -1,20 +1,19 @@
 -- From what the tests of `vert_convolution_u16` said to its two clauses. Cited by its proof. Assumes nothing.
-use mathlib.Core.Path.{_≡_, _∙_}
+use mathlib.Core.Path.{_≡_}
 use mathlib.Core.Bool.{true, false}
 use mathlib.Core.List.{List}
-use Prim.Native.Nat.{ℕ, _+_, _*_, _/_, _%_}
+use Prim.Native.Nat.{ℕ, _*_}
 use lib.ListN.{length}
 use Rattle.lists.specs.Tab.{tab, grid}
-use Rattle.lists.proofs.TabLaws.{tab-ext}
 use Rattle.refusal.specs.declared.Refusal.the-variants.{BadSide, DoesNotFit}
 use Rattle.windows.specs.Set.{Stored, windows}
 use Rattle.windows.specs.Store.{store32, badPrecision}
 use Rattle.vertical.specs.declared.Passed.{Passed}
 use Rattle.vertical.specs.declared.Passed.the-variants.{Done, Refused}
-use Rattle.vertical.specs.Frame.{frame, output, badSize, badShape}
-use Rattle.vertical.specs.U16.{valueAt, passedU16, writtenU16}
-use Rattle.vertical_u16.specs.Window.{windowValue}
-use Rattle.vertical_u16.proofs.Values.{value-is}
+use Rattle.vertical.specs.Frame.{badSize, badShape}
+use Rattle.vertical.specs.U16.{passedU16, writtenU16}
+use Rattle.vertical.specs.Column.{windowValue}
+use Rattle.vertical.proofs.Values.{output-of-cells}
 
 module _ (s : Stored) (src : List ℕ) (row first count : ℕ) (old : List ℕ) where
   -- the answer r with the list `new` is what the two clauses say
@@ -33,11 +32,6 @@ module _ (s : Stored) (src : List ℕ) (row first count : ℕ) (old : List ℕ) 
   unfolding passedU16 writtenU16
   bad-precision size shape precision = (rw (size, shape, precision), rw (size, shape, precision))
 
-  pub done : badSize (s .set .layout .lines) (windows (s .set .layout)) row ≡ false → badShape (s .set .layout) (length (s .set .weights)) (length src) row first count (length old) ≡ false → badPrecision store32 (s .precision) ≡ false → (new : List ℕ) → new ≡ tab 0 (windows (s .set .layout) * count) (grid count (windowValue src row first (s .set .layout .starts) (s .set .layout .sizes) (s .set .layout .windowSize) (s .set .weights) (s .precision))) → Meets Done new
+  pub done : badSize (s .set .layout .lines) (windows (s .set .layout)) row ≡ false → badShape (s .set .layout) (length (s .set .weights)) (length src) row first count (length old) ≡ false → badPrecision store32 (s .precision) ≡ false → (new : List ℕ) → new ≡ tab 0 (windows (s .set .layout) * count) (grid count (windowValue 65535 src row first (s .set .layout .starts) (s .set .layout .sizes) (s .set .layout .windowSize) (s .set .weights) (s .precision))) → Meets Done new
   unfolding passedU16 writtenU16
-  done size shape precision new cells =
-      let is : new ≡ output (valueAt 65535 s (frame 0 src row)) (windows (s .set .layout)) first count =
-      cells
-      ∙ tab-ext 0 (windows (s .set .layout) * count) (grid count (windowValue src row first (s .set .layout .starts) (s .set .layout .sizes) (s .set .layout .windowSize) (s .set .weights) (s .precision))) (grid count (λ i j. valueAt 65535 s (frame 0 src row) i (first + j)))
-      (λ k l. value-is s src row first ((0 + k) / count) ((0 + k) % count)) in
-      (rw (size, shape, precision), rw (size, shape, precision) is)
+  done size shape precision new cells = (rw (size, shape, precision), rw (size, shape, precision) (output-of-cells 65535 s src row first count cells))

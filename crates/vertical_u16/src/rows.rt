@@ -5,7 +5,7 @@ ghost use Prim.Native.Nat.{_*_, _≤_};
 ghost use lib.ListN.{length};
 ghost use Rattle.lists.specs.Tab.{tab, grid};
 ghost use Rattle.vertical.specs.Ready.{Ready};
-ghost use Rattle.vertical_u16.specs.Window.{windowValue};
+ghost use Rattle.vertical.specs.Column.{windowValue};
 
 // A start or a size as an index.
 fn wide(x: u32) -> usize
@@ -29,7 +29,7 @@ pub(crate) fn rows(
 )
     requires { ⌜ (1 ≤ p) × (p ≤ 45) ⌝ }
     requires { ⌜ Ready (length (now src)) row first count (now starts) (now sizes) window (length (now weights)) (length (now out)) ⌝ }
-    ensures { λ _. ⌜ now (out .exit) ≡ tab 0 (length (now (starts .entry)) * count) (grid count (windowValue (now (src .entry)) row first (now (starts .entry)) (now (sizes .entry)) window (now (weights .entry)) p)) ⌝ }
+    ensures { λ _. ⌜ now (out .exit) ≡ tab 0 (length (now (starts .entry)) * count) (grid count (windowValue 65535 (now (src .entry)) row first (now (starts .entry)) (now (sizes .entry)) window (now (weights .entry)) p)) ⌝ }
 {
     let mut i: usize = 0;
     let mut o: usize = 0;

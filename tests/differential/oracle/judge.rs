@@ -137,3 +137,30 @@ pub fn f32_in_use(
     }
     0
 }
+
+/// 9 of the u8 pass: the weights in use of some window, in their sizes, times 255 and with half of 2^precision, pass 2^31 - 1.
+pub fn heavy(window: u32, weights: &[i16], sizes: &[u32], precision: u32) -> bool {
+    sizes.iter().enumerate().any(|(i, &size)| {
+        let from = i * window as usize;
+        let total: i64 = weights[from..from + size as usize].iter().map(|&w| (w as i64).abs()).sum();
+        255 * total + (1i64 << (precision - 1)) > i32::MAX as i64
+    })
+}
+
+/// The u8 pass's rows, in 32 bits throughout: the checked build stops where a sum leaves them.
+#[allow(clippy::too_many_arguments)]
+pub fn u8_rows(
+    row: u32, first: u32, count: u32, window: u32, precision: u32,
+    weights: &[i16], starts: &[u32], sizes: &[u32], samples: &[u8], out: &mut [u8],
+) {
+    for i in 0..starts.len() {
+        for j in 0..count as usize {
+            let mut sum = 1i32 << (precision - 1);
+            for k in 0..sizes[i] as usize {
+                let at = (starts[i] as usize + k) * row as usize + first as usize + j;
+                sum += weights[i * window as usize + k] as i32 * samples[at] as i32;
+            }
+            out[i * count as usize + j] = (sum >> precision).clamp(0, 255) as u8;
+        }
+    }
+}

@@ -21,6 +21,7 @@ pub fn answer(text: &str, bare: bool) -> Option<String> {
         ("norm16", 6) => normalize(fields, bare, 22, 15, Door::NORMALIZE16),
         ("norm32", 6) => normalize(fields, bare, 46, 31, Door::NORMALIZE32),
         ("u16pass", 11) => u16pass(fields, bare),
+        ("u8pass", 11) => u8pass(fields, bare),
         ("f32pass", 10) => f32pass(fields, bare),
         ("mul8", 2) => alpha(false, fields, bare),
         ("div8", 2) => alpha(true, fields, bare),
@@ -228,6 +229,33 @@ fn u16pass(fields: &[&str], bare: bool) -> Option<String> {
     }
     theirs::u16pass(lines, row, first, count, window, precision, &weights, &starts, &sizes, &samples, &mut out);
     Some(format!("0 {}", decimals(&out)))
+}
+
+/// Ours, whole: the given Rust's u8 pass was not given, and the rule is the customer's (document 02, W-205).
+fn u8pass(fields: &[&str], bare: bool) -> Option<String> {
+    let (lines, row) = (u32_of(fields[0])?, u32_of(fields[1])?);
+    let (first, count) = (u32_of(fields[2])?, u32_of(fields[3])?);
+    let (window, precision) = (u32_of(fields[4])?, u32_of(fields[5])?);
+    let weights = i16s(fields[6])?;
+    let starts = u32s(fields[7])?;
+    let sizes = u32s(fields[8])?;
+    let samples = u8s(fields[9])?;
+    let mut out: Vec<u8> = lent(length(fields[10])?);
+    if bare {
+        return undefined();
+    }
+    let lists = judge::pass(
+        lines, row, first, count, window, weights.len(), &starts, &sizes, samples.len(), out.len(),
+    );
+    let no = match lists {
+        0 if !(4..=21).contains(&precision) => 10,
+        0 if judge::heavy(window, &weights, &sizes, precision) => 9,
+        no => no,
+    };
+    if no == 0 {
+        judge::u8_rows(row, first, count, window, precision, &weights, &starts, &sizes, &samples, &mut out);
+    }
+    Some(format!("{no} {}", decimals(&out)))
 }
 
 fn f32pass(fields: &[&str], bare: bool) -> Option<String> {

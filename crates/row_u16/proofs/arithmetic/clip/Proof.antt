@@ -3,7 +3,7 @@ use mathlib.Core.Path.{_∙_, ap}
 use mir.Facts.{toZ-ofZ}
 use borrow.Author.Needs.{needs}
 use Rattle.integers.specs.Sums.{clipped}
-use Rattle.row_u16.proofs.ReadBack.{back}
+use Rattle.vertical.proofs.ReadBack.{back64 as back}
 use Rattle.row_u16.proofs.arithmetic.clip.Statement.{statement}
 use Rattle.row_u16.proofs.arithmetic.clip.Tie as tie
 

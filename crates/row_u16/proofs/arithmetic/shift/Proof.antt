@@ -1,6 +1,7 @@
 -- The shift of a signed number is `shrZ`, which rounds down. Assumes nothing.
 use borrow.Author.Needs.{needs}
-use Rattle.row_u16.proofs.ReadBack.{back-shift}
+use mir.Syntax.{w64}
+use Rattle.vertical.proofs.ReadBack.{back-shift}
 use Rattle.row_u16.proofs.arithmetic.shift.Statement.{statement}
 use Rattle.row_u16.proofs.arithmetic.shift.Tie as tie
 
@@ -11,7 +12,7 @@ shr-result : tie.Need-shr-result
 shr-result c = search needs
 
 returns : tie.Need-returns
-returns c = back-shift _ _ (c .fits .v)
+returns c = back-shift w64 _ _ (c .fits .v)
 
 pub shift-spec : {M : Type 1} → statement M
 shift-spec = tie.close (tie.spec cast-result shr-result returns)

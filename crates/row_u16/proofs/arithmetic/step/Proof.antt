@@ -2,7 +2,7 @@
 use mathlib.Core.Path.{_∙_}
 use mir.Facts.{toZ-ofZ}
 use borrow.Author.Needs.{needs}
-use Rattle.row_u16.proofs.ReadBack.{back}
+use Rattle.vertical.proofs.ReadBack.{back64 as back}
 use Rattle.row_u16.proofs.Sizes.{product-fits, step-fits, step-is}
 use Rattle.row_u16.proofs.arithmetic.step.Statement.{statement}
 use Rattle.row_u16.proofs.arithmetic.step.Tie as tie

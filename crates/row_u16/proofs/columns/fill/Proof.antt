@@ -5,7 +5,7 @@ use native.Mathlib.Omega.{arith}
 use borrow.Author.Needs.{needs}
 use lib.ListN.{length}
 use Rattle.lists.specs.Tab.{tab}
-use Rattle.row_u16.proofs.Parts.{done-again}
+use Rattle.vertical.proofs.ColumnLaws.{done-again}
 use Rattle.vertical.specs.Column.{rowValue}
 use Rattle.row_u16.proofs.columns.fill.Statement.{statement}
 use Rattle.row_u16.proofs.columns.fill.Tie as tie

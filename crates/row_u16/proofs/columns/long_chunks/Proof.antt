@@ -11,7 +11,7 @@ use Rattle.lists.proofs.StoreLaws.{part-size}
 use Rattle.lists.proofs.TabLaws.{Written, written-none, written-part}
 use Rattle.row_u16.proofs.columns.long_chunks.Statement.{statement}
 use Rattle.vertical.specs.Column.{rowValue}
-use Rattle.row_u16.proofs.ReadBack.{back}
+use Rattle.vertical.proofs.ReadBack.{back64 as back}
 use Rattle.row_u16.proofs.Parts.{part-is}
 use Rattle.row_u16.proofs.columns.long_chunks.Tie as tie
 

@@ -7,12 +7,12 @@ use lib.ListN.{length}
 use Rattle.lists.specs.Tab.{front}
 use Rattle.lists.proofs.TabLaws.{Written, written-none, written-more, front-whole}
 use Rattle.row_u16.proofs.columns.put_columns.Statement.{statement}
-use Rattle.row_u16.specs.Chunks.{clippedAt}
-use Rattle.row_u16.proofs.ReadBack.{back}
+use Rattle.vertical.specs.Column.{clippedAt}
+use Rattle.vertical.proofs.ReadBack.{back64 as back}
 use Rattle.row_u16.proofs.columns.put_columns.Tie as tie
 
 abbrev Inv-loop : tie.InvT-loop
-Inv-loop ss p out₀ t₀ out t = (t ≤ length out₀) × Written t (clippedAt ss p) out₀ out
+Inv-loop ss p out₀ t₀ out t = (t ≤ length out₀) × Written t (clippedAt 65535 ss p) out₀ out
 
 abbrev μ-loop : tie.MeasureT-loop
 μ-loop ss p out₀ t₀ out t = length out₀ - t
@@ -54,7 +54,7 @@ returns c =
     let l = c .before in
     let a = l .before .before .args in
     let all : l .loop .t ≡ length (a .out .now) = omega (arith, l .loop .inv .1 .long) in
-    l .loop .inv .1 .is ∙ ap (λ (n : ℕ). front n (clippedAt (a .ss .now) (a .p)) (a .out .now)) all ∙ front-whole (clippedAt (a .ss .now) (a .p)) (a .out .now)
+    l .loop .inv .1 .is ∙ ap (λ (n : ℕ). front n (clippedAt 65535 (a .ss .now) (a .p)) (a .out .now)) all ∙ front-whole (clippedAt 65535 (a .ss .now) (a .p)) (a .out .now)
 
 pub put-columns-spec : {M : Type 1} → statement M
 put-columns-spec =

@@ -12,7 +12,7 @@ use Rattle.lists.specs.Tab.{front}
 use Rattle.lists.proofs.StoreLaws.{part-size}
 use Rattle.row_u16.proofs.columns.tail.Statement.{statement}
 use Rattle.vertical.specs.Column.{rowValue}
-use Rattle.row_u16.proofs.ReadBack.{back}
+use Rattle.vertical.proofs.ReadBack.{back64 as back}
 use Rattle.row_u16.proofs.Parts.{part-is}
 use Rattle.row_u16.proofs.columns.tail.Tie as tie
 

@@ -12,7 +12,7 @@ use Rattle.lists.specs.Tab.{front}
 use Rattle.lists.proofs.TabLaws.{Written, written-none, written-more, front-whole}
 use Rattle.row_u16.proofs.sums.add_line.Statement.{statement}
 use Rattle.row_u16.specs.Chunks.{stepAt}
-use Rattle.row_u16.proofs.ReadBack.{back}
+use Rattle.vertical.proofs.ReadBack.{back64 as back}
 use Rattle.row_u16.proofs.Parts.{not-yet}
 use Rattle.row_u16.proofs.sums.add_line.Tie as tie
 

@@ -1,25 +1,23 @@
 -- After i windows each of their rows stands in its place; `WindowThere` says that all of the next one's indices are there. Assumes nothing.
 use mathlib.Core.Path.{_≡_, refl, sym, ap, _∙_}
-use mathlib.Core.List.{List}
 use Prim.Native.Nat.{ℕ, _+_, _-_, _*_, _≤_, _<_}
 use native.Mathlib.Nat.{zero-mul}
 use native.Mathlib.Numerals.{add-one}
 use native.Mathlib.Omega.{arith}
 use borrow.Author.Needs.{needs}
-use lib.IntN.{ℤ}
-use lib.ListN.{length, getD, take, drop}
+use lib.ListN.{length, getD}
 use Rattle.lists.specs.Tab.{tab, front, grid}
 use Rattle.lists.proofs.StoreLaws.{part-size}
 use Rattle.lists.proofs.TabLaws.{Written, written-none, written-row, row-next, front-whole}
-use Rattle.vertical.specs.Column.{rowValue}
+use Rattle.vertical.specs.Column.{windowValue}
+use Rattle.vertical.proofs.Values.{row-is}
 use Rattle.vertical.proofs.Turns.{WindowThere, window-there}
-use Rattle.vertical_u16.specs.Window.{windowValue}
 use Rattle.vertical_u16.proofs.rows.rows.Statement.{statement}
 use Rattle.vertical_u16.proofs.rows.rows.Tie as tie
 
 abbrev Inv-loop : tie.InvT-loop
 Inv-loop src row first count weights starts sizes window p out₀ i₀ o₀ out i o =
-    (i ≤ length starts) × (o ≡ i * count) × Written o (grid count (windowValue src row first starts sizes window weights p)) out₀ out
+    (i ≤ length starts) × (o ≡ i * count) × Written o (grid count (windowValue 65535 src row first starts sizes window weights p)) out₀ out
 
 abbrev μ-loop : tie.MeasureT-loop
 μ-loop src row first count weights starts sizes window p out₀ i₀ o₀ out i o = length starts - i
@@ -32,10 +30,6 @@ at : (c : tie.At-loop Inv-loop μ-loop) → c .loop .i < length (c .before .befo
 at c h =
     let a = c .before .before .before .before .before .args in
     window-there (length (a .src .now)) (a .row) (a .first) (a .count) (a .starts .now) (a .sizes .now) (a .window) (length (a .weights .now)) (length (a .out .now)) (c .before .before .before .before .before .pre .1) (c .loop .i) h
-
--- the row that `fill` writes, with what the turn read in the place of the window's start and size
-row-is : (p row first count : ℕ) (weights : List ℤ) (src : List ℕ) (a size start : ℕ) {m d n y : ℕ} {new : List ℕ} → m ≡ count → d ≡ size → n ≡ size → y ≡ start → new ≡ tab 0 m (rowValue 65535 p (take d (drop a weights)) src (y * row + first) row n) → new ≡ tab 0 count (rowValue 65535 p (take size (drop a weights)) src (start * row + first) row size)
-row-is p row first count weights src a size start em ed en ey e = e ∙ rw (em, ed, en, ey) refl
 
 mul-a : tie.Need-mul-a Inv-loop μ-loop
 mul-a c = omega (arith, at (c .before) (c .loop-test .taken))
@@ -132,9 +126,9 @@ loop-again c =
     let lo = part-size (l .loop .out) (l .loop .o) (a .count) (omega (arith, t .outputs, l .loop .inv .1, l .loop .inv .2 .long)) in (
       rw (add-one (l .loop .i)) (c .before .before .before .before .before .before .before .before .before .loop-test .taken),
       row-next (l .loop .o) (l .loop .i) (a .count) (l .loop .inv .1),
-      written-row (l .loop .i) (a .count) (l .loop .o) (l .loop .o + a .count - l .loop .o) (windowValue (a .src .now) (a .row) (a .first) (a .starts .now) (a .sizes .now) (a .window) (a .weights .now) (a .p)) (l .loop .inv .2) (l .loop .inv .1) (omega arith)
+      written-row (l .loop .i) (a .count) (l .loop .o) (l .loop .o + a .count - l .loop .o) (windowValue 65535 (a .src .now) (a .row) (a .first) (a .starts .now) (a .sizes .now) (a .window) (a .weights .now) (a .p)) (l .loop .inv .2) (l .loop .inv .1) (omega arith)
           (omega (arith, t .outputs, l .loop .inv .1))
-          (row-is (a .p) (a .row) (a .first) (a .count) (a .weights .now) (a .src .now) (l .loop .i * a .window) (getD (a .sizes .now) (l .loop .i) 0) (getD (a .starts .now) (l .loop .i) 0) lo d (lw ∙ z) e (c .before .before .fill .ensures)),
+          (row-is 65535 (a .p) (a .row) (a .first) (a .count) (a .weights .now) (a .src .now) (l .loop .i * a .window) (getD (a .sizes .now) (l .loop .i) 0) (getD (a .starts .now) (l .loop .i) 0) lo d (lw ∙ z) e (c .before .before .fill .ensures)),
     )
 
 same-length : tie.Need-same-length Inv-loop μ-loop
@@ -145,7 +139,7 @@ returns c =
     let l = c .before in
     let b = l .before .before .before .before .before in
     let a = b .args in
-    let cells = grid (a .count) (windowValue (a .src .now) (a .row) (a .first) (a .starts .now) (a .sizes .now) (a .window) (a .weights .now) (a .p)) in
+    let cells = grid (a .count) (windowValue 65535 (a .src .now) (a .row) (a .first) (a .starts .now) (a .sizes .now) (a .window) (a .weights .now) (a .p)) in
     let last : l .loop .i ≡ length (a .starts .now) = omega arith in
     l .loop .inv .2 .is
     ∙ ap (λ (n : ℕ). front n cells (a .out .now)) (l .loop .inv .1 ∙ ap (λ (i : ℕ). i * a .count) last ∙ sym (b .pre .1 .rooms))

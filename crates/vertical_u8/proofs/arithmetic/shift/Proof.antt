@@ -1,0 +1,18 @@
+-- The shift of a signed number is `shrZ`, which rounds down. Assumes nothing.
+use borrow.Author.Needs.{needs}
+use mir.Syntax.{w32}
+use Rattle.vertical.proofs.ReadBack.{back-shift}
+use Rattle.vertical_u8.proofs.arithmetic.shift.Statement.{statement}
+use Rattle.vertical_u8.proofs.arithmetic.shift.Tie as tie
+
+cast-result : tie.Need-cast-result
+cast-result c = search needs
+
+shr-result : tie.Need-shr-result
+shr-result c = search needs
+
+returns : tie.Need-returns
+returns c = back-shift w32 _ _ (c .fits .v)
+
+pub shift-spec : {M : Type 1} → statement M
+shift-spec = tie.close (tie.spec cast-result shr-result returns)

@@ -1,0 +1,16 @@
+-- A sample is below 2^8, so it reads back as itself. Assumes nothing.
+use native.Mathlib.Omega.{arith}
+use mir.Syntax.{w32}
+use mir.ValLaws.{toZ-pos}
+use borrow.Author.Needs.{needs}
+use Rattle.vertical_u8.proofs.arithmetic.wide8.Statement.{statement}
+use Rattle.vertical_u8.proofs.arithmetic.wide8.Tie as tie
+
+cast-result : tie.Need-cast-result
+cast-result c = search needs
+
+returns : tie.Need-returns
+returns c = toZ-pos w32 (c .args .s) (omega arith)
+
+pub wide8-spec : {M : Type 1} → statement M
+wide8-spec = tie.close (tie.spec cast-result returns)

@@ -1,0 +1,105 @@
+-- After i turns `bad` says whether one of the first i windows is too heavy; a turn more is one step of `any`. Assumes nothing.
+use mathlib.Core.Path.{_≡_, refl, _∙_}
+use Prim.Native.Nat.{ℕ, _-_, _≤_, _<_, _+_, _*_}
+use native.Mathlib.Numerals.{add-one}
+use native.Mathlib.Omega.{arith}
+use borrow.Author.Needs.{needs}
+use lib.ListN.{length, getD}
+use Rattle.lists.specs.Tab.{any}
+use Rattle.lists.proofs.StoreLaws.{part-size}
+use Rattle.vertical_u8.specs.Inner.{slotHeavy}
+use Rattle.vertical_u8.proofs.Slices.{slice-heavy}
+use Rattle.vertical_u8.proofs.judge.some_heavy.Statement.{statement}
+use Rattle.vertical_u8.proofs.judge.some_heavy.Tie as tie
+
+abbrev Inv-loop : tie.InvT-loop
+Inv-loop weights sizes window p bad₀ i₀ bad i = (i ≤ length sizes) × (bad ≡ any i (slotHeavy window weights sizes p))
+
+abbrev μ-loop : tie.MeasureT-loop
+μ-loop weights sizes window p bad₀ i₀ bad i = length sizes - i
+
+loop-holds : tie.Need-loop-holds Inv-loop μ-loop
+loop-holds c = (omega arith, refl)
+
+-- a window's weights in use are among the slots
+there : (c : tie.At-loop Inv-loop μ-loop) → c .loop .i < length (c .before .before .args .sizes .now) → let a = c .before .before .args in c .loop .i * a .window + getD (a .sizes .now) (c .loop .i) 0 ≤ length (a .weights .now)
+there c h = c .before .before .pre .1 .there (c .loop .i) h
+
+mul-a : tie.Need-mul-a Inv-loop μ-loop
+mul-a c = omega (arith, there (c .before) (c .loop-test .taken), c .before .before .before .pre .1 .small)
+
+mul-index : tie.Need-mul-index Inv-loop μ-loop
+mul-index c = omega arith
+
+shared-slice-read-index : tie.Need-shared-slice-read-index Inv-loop μ-loop
+shared-slice-read-index c = omega arith
+
+index-requires : tie.Need-index-requires Inv-loop μ-loop
+index-requires c κs = tt
+
+add-e : tie.Need-add-e Inv-loop μ-loop
+add-e c = rw (c .index .ensures) (omega (arith, there (c .before .before .before) (c .before .before .loop-test .taken), c .before .before .before .before .before .pre .1 .small))
+
+mul-is-heavy : tie.Need-mul-is-heavy Inv-loop μ-loop
+mul-is-heavy c = omega (arith, there (c .before .before .before) (c .before .before .loop-test .taken), c .before .before .before .before .before .pre .1 .small)
+
+sub-is-heavy : tie.Need-sub-is-heavy Inv-loop μ-loop
+sub-is-heavy c = omega arith
+
+part-is-heavy-start : tie.Need-part-is-heavy-start Inv-loop μ-loop
+part-is-heavy-start c = search needs
+
+part-is-heavy-end : tie.Need-part-is-heavy-end Inv-loop μ-loop
+part-is-heavy-end c = omega (arith, there (c .before .before .before) (c .before .before .loop-test .taken), c .index .ensures)
+
+is-heavy-requires : tie.Need-is-heavy-requires Inv-loop μ-loop
+is-heavy-requires c κs =
+    let l = c .before .before .before .before in
+    let b = l .before .before in
+    let a = b .args in
+    let z = c .before .index .ensures in
+    let lw = part-size (a .weights .now) (l .loop .i * a .window) (c .before .index .result) (omega (arith, there l (c .before .before .before .loop-test .taken), z)) in
+    (b .pre .0, omega (arith, lw, z, b .pre .1 .few (l .loop .i) (c .before .before .before .loop-test .taken)))
+
+add-i : tie.Need-add-i Inv-loop μ-loop
+add-i c = omega arith
+
+loop-less : tie.Need-loop-less Inv-loop μ-loop
+loop-less c = omega arith
+
+loop-again : tie.Need-loop-again Inv-loop μ-loop
+loop-again c =
+    let l = c .before .before .before .before .before in
+    let b = l .before .before in
+    let a = b .args in
+    let z = c .before .before .index .ensures in
+    let d : l .loop .i * a .window + c .before .before .index .result - l .loop .i * a .window ≡ getD (a .sizes .now) (l .loop .i) 0 = omega (arith, z) in
+    let lw = part-size (a .weights .now) (l .loop .i * a .window) (c .before .before .index .result) (omega (arith, there l (c .before .before .before .before .loop-test .taken), z)) in
+    (omega arith, rw (add-one, l .loop .inv .1, slice-heavy (a .window) (a .weights .now) (a .sizes .now) (a .p) (l .loop .i) d (lw ∙ z) (c .is-heavy .ensures)) refl)
+
+returns : tie.Need-returns Inv-loop μ-loop
+returns c =
+    let all : c .before .loop .i ≡ length (c .before .before .before .args .sizes .now) = omega arith in
+    rw (← all) (c .before .loop .inv .1)
+
+pub some-heavy-spec : {M : Type 1} → statement M
+some-heavy-spec =
+    tie.close
+    (tie.spec
+    Inv-loop
+    μ-loop
+    loop-holds
+    mul-a
+    mul-index
+    shared-slice-read-index
+    index-requires
+    add-e
+    mul-is-heavy
+    sub-is-heavy
+    part-is-heavy-start
+    part-is-heavy-end
+    is-heavy-requires
+    add-i
+    loop-less
+    loop-again
+    returns)

@@ -1,0 +1,180 @@
+-- After i windows each of their rows stands in its place; `WindowThere` says that all of the next one's indices are there. Assumes nothing.
+use mathlib.Core.Path.{_≡_, refl, sym, ap, _∙_}
+use mathlib.Core.List.{List}
+use Prim.Native.Nat.{ℕ, _+_, _-_, _*_, _≤_, _<_}
+use native.Mathlib.Nat.{zero-mul}
+use native.Mathlib.Numerals.{add-one}
+use native.Mathlib.Omega.{arith}
+use borrow.Author.Needs.{needs}
+use lib.IntN.{ℤ}
+use lib.ListN.{length, getD, take, drop}
+use Rattle.lists.specs.Tab.{tab, front, grid}
+use Rattle.lists.proofs.StoreLaws.{part-size}
+use Rattle.lists.proofs.TabLaws.{Written, written-none, written-row, row-next, front-whole}
+use Rattle.vertical.specs.Column.{windowValue}
+use Rattle.vertical.proofs.Turns.{WindowThere, window-there}
+use Rattle.vertical.proofs.Values.{row-is}
+use Rattle.vertical_u8.proofs.Slices.{slice-room}
+use Rattle.vertical_u8.proofs.rows.rows.Statement.{statement}
+use Rattle.vertical_u8.proofs.rows.rows.Tie as tie
+
+abbrev Inv-loop : tie.InvT-loop
+Inv-loop src row first count weights starts sizes window p out₀ i₀ o₀ out i o =
+    (i ≤ length starts) × (o ≡ i * count) × Written o (grid count (windowValue 255 src row first starts sizes window weights p)) out₀ out
+
+abbrev μ-loop : tie.MeasureT-loop
+μ-loop src row first count weights starts sizes window p out₀ i₀ o₀ out i o = length starts - i
+
+loop-holds : tie.Need-loop-holds Inv-loop μ-loop
+loop-holds c = (omega arith, rw zero-mul, written-none)
+
+-- what the lists' facts give at the window of a turn
+at : (c : tie.At-loop Inv-loop μ-loop) → c .loop .i < length (c .before .before .before .before .before .args .starts .now) → let a = c .before .before .before .before .before .args in WindowThere (length (a .src .now)) (a .row) (a .first) (a .count) (a .starts .now) (a .sizes .now) (a .window) (length (a .weights .now)) (length (a .out .now)) (c .loop .i)
+at c h =
+    let a = c .before .before .before .before .before .args in
+    window-there (length (a .src .now)) (a .row) (a .first) (a .count) (a .starts .now) (a .sizes .now) (a .window) (length (a .weights .now)) (length (a .out .now)) (c .before .before .before .before .before .pre .1 .0) (c .loop .i) h
+
+mul-a : tie.Need-mul-a Inv-loop μ-loop
+mul-a c = omega (arith, at (c .before) (c .loop-test .taken))
+
+mul-index : tie.Need-mul-index Inv-loop μ-loop
+mul-index c = omega arith
+
+shared-slice-read-index : tie.Need-shared-slice-read-index Inv-loop μ-loop
+shared-slice-read-index c = omega (arith, c .before .before .before .before .before .before .before .pre .1 .0 .set .pairs)
+
+index-requires : tie.Need-index-requires Inv-loop μ-loop
+index-requires c κs = tt
+
+add-e : tie.Need-add-e Inv-loop μ-loop
+add-e c = rw (c .index .ensures) (omega (arith, at (c .before .before .before) (c .before .before .loop-test .taken)))
+
+add-f : tie.Need-add-f Inv-loop μ-loop
+add-f c = omega (arith, at (c .before .before .before) (c .before .before .loop-test .taken), c .before .before .before .loop .inv .1)
+
+mul-index-2 : tie.Need-mul-index-2 Inv-loop μ-loop
+mul-index-2 c = omega arith
+
+shared-slice-read-index-2 : tie.Need-shared-slice-read-index-2 Inv-loop μ-loop
+shared-slice-read-index-2 c = omega arith
+
+index-requires-2 : tie.Need-index-requires-2 Inv-loop μ-loop
+index-requires-2 c κs = tt
+
+mul-at : tie.Need-mul-at Inv-loop μ-loop
+mul-at c = rw (c .index2 .ensures) (omega (arith, at (c .before .before .before .before .before) (c .before .before .before .before .loop-test .taken)))
+
+add-at : tie.Need-add-at Inv-loop μ-loop
+add-at c = rw (c .index2 .ensures) (omega (arith, at (c .before .before .before .before .before) (c .before .before .before .before .loop-test .taken)))
+
+mul-fill : tie.Need-mul-fill Inv-loop μ-loop
+mul-fill c = omega (arith, at (c .before .before .before .before .before) (c .before .before .before .before .loop-test .taken))
+
+sub-fill : tie.Need-sub-fill Inv-loop μ-loop
+sub-fill c = omega arith
+
+part-fill-start : tie.Need-part-fill-start Inv-loop μ-loop
+part-fill-start c = search needs
+
+part-fill-end : tie.Need-part-fill-end Inv-loop μ-loop
+part-fill-end c = omega (arith, at (c .before .before .before .before .before) (c .before .before .before .before .loop-test .taken), c .before .before .index .ensures)
+
+sub-fill-2 : tie.Need-sub-fill-2 Inv-loop μ-loop
+sub-fill-2 c = omega arith
+
+part-fill-start-2 : tie.Need-part-fill-start-2 Inv-loop μ-loop
+part-fill-start-2 c = search needs
+
+part-fill-end-2 : tie.Need-part-fill-end-2 Inv-loop μ-loop
+part-fill-end-2 c = omega (arith, at (c .before .before .before .before .before .before) (c .before .before .before .before .before .loop-test .taken), c .before .before .before .before .before .before .loop .inv .1, c .before .before .before .before .before .before .loop .inv .2 .long)
+
+fill-requires : tie.Need-fill-requires Inv-loop μ-loop
+fill-requires c κs =
+    let l = c .before .before .before .before .before .before .before in
+    let b = l .before .before .before .before .before in
+    let t = at l (c .before .before .before .before .before .before .loop-test .taken) in
+    let e = c .before .before .index2 .ensures in
+    let z = c .before .before .before .before .index .ensures in
+    let lw = part-size (b .args .weights .now) (l .loop .i * b .args .window) (c .before .before .before .before .index .result) (omega (arith, t .weights)) in
+    let d : l .loop .i * b .args .window + c .before .before .before .before .index .result - l .loop .i * b .args .window ≡ getD (b .args .sizes .now) (l .loop .i) 0 = omega (arith, z) in
+    let lo = part-size (l .loop .out) (l .loop .o) (b .args .count) (omega (arith, t .outputs, l .loop .inv .1, l .loop .inv .2 .long)) in (
+      b .pre .0,
+      (
+        slice-room (b .args .window) (b .args .weights .now) (b .args .sizes .now) (b .args .p) (l .loop .i) (b .pre .1 .1) (omega (arith, b .pre .1 .0 .set .pairs)) d (lw ∙ z),
+        (
+          b .pre .1 .0 .narrow,
+          ((λ k h. rw e (omega (arith, lo, t .lines k (omega (arith, lw, z))))), rw e (omega (arith, lo, t .first-line, t .columns))),
+        ),
+      ),
+    )
+
+add-i : tie.Need-add-i Inv-loop μ-loop
+add-i c = omega arith
+
+loop-less : tie.Need-loop-less Inv-loop μ-loop
+loop-less c = omega arith
+
+loop-again : tie.Need-loop-again Inv-loop μ-loop
+loop-again c =
+    let l = c .before .before .before .before .before .before .before .before .before .before in
+    let b = l .before .before .before .before .before in
+    let a = b .args in
+    let t = at l (c .before .before .before .before .before .before .before .before .before .loop-test .taken) in
+    let e = c .before .before .before .before .before .index2 .ensures in
+    let z = c .before .before .before .before .before .before .before .index .ensures in
+    let d : l .loop .i * a .window + c .before .before .before .before .before .before .before .index .result - l .loop .i * a .window ≡ getD (a .sizes .now) (l .loop .i) 0 = omega (arith, z) in
+    let lw = part-size (a .weights .now) (l .loop .i * a .window) (c .before .before .before .before .before .before .before .index .result) (omega (arith, t .weights)) in
+    let lo = part-size (l .loop .out) (l .loop .o) (a .count) (omega (arith, t .outputs, l .loop .inv .1, l .loop .inv .2 .long)) in (
+      rw (add-one (l .loop .i)) (c .before .before .before .before .before .before .before .before .before .loop-test .taken),
+      row-next (l .loop .o) (l .loop .i) (a .count) (l .loop .inv .1),
+      written-row (l .loop .i) (a .count) (l .loop .o) (l .loop .o + a .count - l .loop .o) (windowValue 255 (a .src .now) (a .row) (a .first) (a .starts .now) (a .sizes .now) (a .window) (a .weights .now) (a .p)) (l .loop .inv .2) (l .loop .inv .1) (omega arith)
+          (omega (arith, t .outputs, l .loop .inv .1))
+          (row-is 255 (a .p) (a .row) (a .first) (a .count) (a .weights .now) (a .src .now) (l .loop .i * a .window) (getD (a .sizes .now) (l .loop .i) 0) (getD (a .starts .now) (l .loop .i) 0) lo d (lw ∙ z) e (c .before .before .fill .ensures)),
+    )
+
+same-length : tie.Need-same-length Inv-loop μ-loop
+same-length c = search needs
+
+returns : tie.Need-returns Inv-loop μ-loop
+returns c =
+    let l = c .before in
+    let b = l .before .before .before .before .before in
+    let a = b .args in
+    let cells = grid (a .count) (windowValue 255 (a .src .now) (a .row) (a .first) (a .starts .now) (a .sizes .now) (a .window) (a .weights .now) (a .p)) in
+    let last : l .loop .i ≡ length (a .starts .now) = omega arith in
+    l .loop .inv .2 .is
+    ∙ ap (λ (n : ℕ). front n cells (a .out .now)) (l .loop .inv .1 ∙ ap (λ (i : ℕ). i * a .count) last ∙ sym (b .pre .1 .0 .rooms))
+    ∙ front-whole cells (a .out .now)
+    ∙ ap (λ (n : ℕ). tab 0 n cells) (b .pre .1 .0 .rooms)
+
+pub rows-spec : {M : Type 1} → statement M
+rows-spec =
+    tie.close
+    (tie.spec
+    Inv-loop
+    μ-loop
+    loop-holds
+    mul-a
+    mul-index
+    shared-slice-read-index
+    index-requires
+    add-e
+    add-f
+    mul-index-2
+    shared-slice-read-index-2
+    index-requires-2
+    mul-at
+    add-at
+    mul-fill
+    sub-fill
+    part-fill-start
+    part-fill-end
+    sub-fill-2
+    part-fill-start-2
+    part-fill-end-2
+    fill-requires
+    add-i
+    loop-less
+    loop-again
+    same-length
+    returns)

@@ -1,0 +1,91 @@
+-- After t turns the first t sums have the line's term, the others are as they were. Assumes nothing.
+use mathlib.Core.Path.{_≡_, _∙_, refl}
+use Prim.Native.Nat.{ℕ, _-_, _≤_, _<_, _+_}
+use native.Mathlib.Nat.{not-suc-le-zero}
+use native.Mathlib.Omega.{arith}
+use lib.IntN.{pos, _+ℤ_, _*ℤ_}
+use lib.ListN.{length, getD, length-set}
+use mir.Facts.{toZ-ofZ}
+use mir.Syntax.{w16}
+use mir.Val.{toZ, ofZ}
+use Rattle.lists.proofs.StoreLaws.{set-below, set-above}
+use Rattle.vertical.proofs.ReadBack.{back32 as back}
+use Rattle.vertical_u8.proofs.sums.add32.Statement.{statement}
+use Rattle.vertical_u8.proofs.sums.add32.Tie as tie
+
+abbrev Inv-loop : tie.InvT-loop
+Inv-loop src at w r₀ t₀ r t =
+    (t ≤ 32)
+    × (length r ≡ 32)
+    × ((x : ℕ) → x < t → getD r x (pos 0) ≡ getD r₀ x (pos 0) +ℤ toZ w16 w *ℤ pos (getD src (at + x) 0))
+    × ((x : ℕ) → t ≤ x → getD r x (pos 0) ≡ getD r₀ x (pos 0))
+
+abbrev μ-loop : tie.MeasureT-loop
+μ-loop src at w r₀ t₀ r t = 32 - t
+
+loop-holds : tie.Need-loop-holds Inv-loop μ-loop
+loop-holds c = (omega arith, c .before .pre .0, (λ x h. absurd (not-suc-le-zero h)), (λ x h. refl))
+
+mul-step : tie.Need-mul-step Inv-loop μ-loop
+mul-step c = omega arith
+
+array-copy-out-step : tie.Need-array-copy-out-step Inv-loop μ-loop
+array-copy-out-step c = omega arith
+
+add-step : tie.Need-add-step Inv-loop μ-loop
+add-step c = omega arith
+
+shared-slice-read-step : tie.Need-shared-slice-read-step Inv-loop μ-loop
+shared-slice-read-step c = omega arith
+
+step-requires : tie.Need-step-requires Inv-loop μ-loop
+step-requires c κs =
+    let l = c .before .before .before in
+    rw (back (c .before .step-arg .given), l .loop .inv .3 (l .loop .t) (omega arith), toZ-ofZ (l .before .before .fits .w)) (l .before .before .pre .1 .1 (l .loop .t) (omega arith))
+
+mul-r : tie.Need-mul-r Inv-loop μ-loop
+mul-r c = omega arith
+
+array-set-from-r : tie.Need-array-set-from-r Inv-loop μ-loop
+array-set-from-r c = omega arith
+
+add-t : tie.Need-add-t Inv-loop μ-loop
+add-t c = omega arith
+
+loop-less : tie.Need-loop-less Inv-loop μ-loop
+loop-less c = omega arith
+
+loop-again : tie.Need-loop-again Inv-loop μ-loop
+loop-again c =
+    let l = c .before .before .before .before in
+    let a = l .before .before .args in
+    let e : getD (l .loop .r) (l .loop .t) (pos 0) ≡ getD (a .ss) (l .loop .t) (pos 0) = l .loop .inv .3 (l .loop .t) (omega arith) in (
+      omega arith,
+      simp length-set (l .loop .inv .1),
+      set-below (l .loop .r) (l .loop .t) _ (pos 0) (λ (x : ℕ). getD (a .ss) x (pos 0) +ℤ toZ w16 (ofZ w16 (a .w)) *ℤ pos (getD (a .src .now) (a .at + x) 0)) (omega arith) (back (c .step .ok) ∙ (c .step .ensures ∙ rw (back (c .before .before .step-arg .given), e) refl)) (l .loop .inv .2),
+      set-above (l .loop .r) (l .loop .t) _ (pos 0) (λ (x : ℕ). getD (a .ss) x (pos 0)) (l .loop .inv .3),
+    )
+
+returns : tie.Need-returns Inv-loop μ-loop
+returns c =
+    let a = c .before .before .before .args in
+    (c .before .loop .inv .1, λ t h. rw (← toZ-ofZ (c .before .before .before .fits .w)) (c .before .loop .inv .2 t (omega arith)))
+
+pub add32-spec : {M : Type 1} → statement M
+add32-spec =
+    tie.close
+    (tie.spec
+    Inv-loop
+    μ-loop
+    loop-holds
+    mul-step
+    array-copy-out-step
+    add-step
+    shared-slice-read-step
+    step-requires
+    mul-r
+    array-set-from-r
+    add-t
+    loop-less
+    loop-again
+    returns)

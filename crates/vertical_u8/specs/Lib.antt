@@ -1,0 +1,2 @@
+pub mod U8
+pub mod Inner
