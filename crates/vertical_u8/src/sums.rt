@@ -39,7 +39,7 @@ pub(crate) fn pixel(src: &[u8], row: usize, at: usize, ws: &[i16], p: u32) -> u8
     clip(sum(half(p), src, row, at, ws), p)
 }
 
-// One line's part of thirty-two sums.
+// One line's part of thirty-two sums. A line of weight 0 adds nothing; without this branch the compiler would put lines, not columns, side by side (docs/SPEED.md).
 fn add32(ss: [i32; 32], src: &[u8], at: usize, w: i16) -> [i32; 32]
     requires { ⌜ length ss ≡ 32 ⌝ }
     requires { ⌜ at + 32 ≤ length (now src) ⌝ }
@@ -47,6 +47,9 @@ fn add32(ss: [i32; 32], src: &[u8], at: usize, w: i16) -> [i32; 32]
     ensures { λ r. ⌜ length r ≡ 32 ⌝ }
     ensures { λ r. ⌜ ((t : ℕ) → t < 32 → getD r t (pos 0) ≡ getD ss t (pos 0) +ℤ w *ℤ pos (getD (now (src .entry)) (at + t) 0)) ⌝ }
 {
+    if w == 0 {
+        return ss;
+    }
     let mut r = ss;
     let mut t: usize = 0;
     while t < 32 {

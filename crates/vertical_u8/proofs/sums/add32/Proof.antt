@@ -1,9 +1,9 @@
--- After t turns the first t sums have the line's term, the others are as they were. Assumes nothing.
-use mathlib.Core.Path.{_≡_, _∙_, refl}
+-- A weight of 0 adds nothing; of another, after t turns the first t sums have the line's term and the others are as they were. Assumes nothing.
+use mathlib.Core.Path.{_≡_, _∙_, refl, sym, ap}
 use Prim.Native.Nat.{ℕ, _-_, _≤_, _<_, _+_}
 use native.Mathlib.Nat.{not-suc-le-zero}
 use native.Mathlib.Omega.{arith}
-use lib.IntN.{pos, _+ℤ_, _*ℤ_}
+use lib.IntN.{ℤ, pos, _+ℤ_, _*ℤ_, zero-*ℤ, +ℤ-idr}
 use lib.ListN.{length, getD, length-set}
 use mir.Facts.{toZ-ofZ}
 use mir.Syntax.{w16}
@@ -12,6 +12,10 @@ use Rattle.lists.proofs.StoreLaws.{set-below, set-above}
 use Rattle.vertical.proofs.ReadBack.{back32 as back}
 use Rattle.vertical_u8.proofs.sums.add32.Statement.{statement}
 use Rattle.vertical_u8.proofs.sums.add32.Tie as tie
+
+-- a weight of 0 adds nothing
+adds-nothing : (z s : ℤ) {w : ℤ} → w ≡ pos 0 → z ≡ z +ℤ w *ℤ s
+adds-nothing z s e = rw (e, zero-*ℤ s) (sym (+ℤ-idr z))
 
 abbrev Inv-loop : tie.InvT-loop
 Inv-loop src at w r₀ t₀ r t =
@@ -23,8 +27,14 @@ Inv-loop src at w r₀ t₀ r t =
 abbrev μ-loop : tie.MeasureT-loop
 μ-loop src at w r₀ t₀ r t = 32 - t
 
+returns : tie.Need-returns Inv-loop μ-loop
+returns c =
+    let b = c .before .before in
+    let none : b .args .w ≡ pos 0 = sym (toZ-ofZ (b .fits .w)) ∙ ap (toZ w16) (c .if1 .taken) in
+    (b .pre .0, λ t h. adds-nothing (getD (b .args .ss) t (pos 0)) (pos (getD (b .args .src .now) (b .args .at + t) 0)) none)
+
 loop-holds : tie.Need-loop-holds Inv-loop μ-loop
-loop-holds c = (omega arith, c .before .pre .0, (λ x h. absurd (not-suc-le-zero h)), (λ x h. refl))
+loop-holds c = (omega arith, c .before .before .pre .0, (λ x h. absurd (not-suc-le-zero h)), (λ x h. refl))
 
 mul-step : tie.Need-mul-step Inv-loop μ-loop
 mul-step c = omega arith
@@ -41,7 +51,7 @@ shared-slice-read-step c = omega arith
 step-requires : tie.Need-step-requires Inv-loop μ-loop
 step-requires c κs =
     let l = c .before .before .before in
-    rw (back (c .before .step-arg .given), l .loop .inv .3 (l .loop .t) (omega arith), toZ-ofZ (l .before .before .fits .w)) (l .before .before .pre .1 .1 (l .loop .t) (omega arith))
+    rw (back (c .before .step-arg .given), l .loop .inv .3 (l .loop .t) (omega arith), toZ-ofZ (l .before .before .before .fits .w)) (l .before .before .before .pre .1 .1 (l .loop .t) (omega arith))
 
 mul-r : tie.Need-mul-r Inv-loop μ-loop
 mul-r c = omega arith
@@ -58,7 +68,7 @@ loop-less c = omega arith
 loop-again : tie.Need-loop-again Inv-loop μ-loop
 loop-again c =
     let l = c .before .before .before .before in
-    let a = l .before .before .args in
+    let a = l .before .before .before .args in
     let e : getD (l .loop .r) (l .loop .t) (pos 0) ≡ getD (a .ss) (l .loop .t) (pos 0) = l .loop .inv .3 (l .loop .t) (omega arith) in (
       omega arith,
       simp length-set (l .loop .inv .1),
@@ -66,10 +76,10 @@ loop-again c =
       set-above (l .loop .r) (l .loop .t) _ (pos 0) (λ (x : ℕ). getD (a .ss) x (pos 0)) (l .loop .inv .3),
     )
 
-returns : tie.Need-returns Inv-loop μ-loop
-returns c =
-    let a = c .before .before .before .args in
-    (c .before .loop .inv .1, λ t h. rw (← toZ-ofZ (c .before .before .before .fits .w)) (c .before .loop .inv .2 t (omega arith)))
+returns-2 : tie.Need-returns-2 Inv-loop μ-loop
+returns-2 c =
+    let a = c .before .before .before .before .args in
+    (c .before .loop .inv .1, λ t h. rw (← toZ-ofZ (c .before .before .before .before .fits .w)) (c .before .loop .inv .2 t (omega arith)))
 
 pub add32-spec : {M : Type 1} → statement M
 add32-spec =
@@ -77,6 +87,7 @@ add32-spec =
     (tie.spec
     Inv-loop
     μ-loop
+    returns
     loop-holds
     mul-step
     array-copy-out-step
@@ -88,4 +99,4 @@ add32-spec =
     add-t
     loop-less
     loop-again
-    returns)
+    returns-2)
