@@ -1,12 +1,20 @@
--- The laws of `upTo`: what the loop that drops trailing zeros asks for. Cited by the proof of `trim`, by LineLaws and by the Box promise. Assumes nothing.
+-- The laws of `upTo`, which the loop that drops trailing zeros asks for, and of `firstWeight`. Cited by the proofs of `trim`, `lead` and `weigh`, by
+-- LineLaws and by the Box promise. Assumes nothing.
 use mathlib.Core.Path.{_≡_, refl, sym, ap, _∙_}
 use mathlib.Core.Bool.{Bool, true, false, cond}
 use Prim.Native.Nat.{ℕ, zero, suc, _-_, _≤_, _<_}
-use native.Mathlib.Nat.{not-suc-le-zero, le-refl}
+use native.Mathlib.Nat.{not-suc-le-zero, le-refl, add-zero}
 use native.Mathlib.Omega.{arith}
 use lib.Dec.{eqb}
-use borrow.Author.Tests.{eqb-true, eqb-false}
-use Rattle.line_weights.specs.Weights.{upTo}
+use lib.Ieee.{Float}
+use borrow.Author.Tests.{eqb-true, eqb-false, lt-ltb}
+use Rattle.filters.specs.declared.FilterType.{FilterType}
+use Rattle.line_weights.specs.Weights.{upTo, weightFrom, firstWeight}
+
+-- where there are weights, the first is the first line's
+pub first-weight : (f : FilterType) (c recip : Float) (a n : ℕ) → 0 < n → firstWeight f c recip a n ≡ weightFrom f c recip a 0
+unfolding firstWeight
+first-weight f c recip a n h = rw (lt-ltb 0 n h, add-zero)
 
 -- the last one passes: all are left
 pub up-stop : (t : ℕ → Bool) (k : ℕ) → 0 < k → t (k - 1) ≡ true → upTo t k ≡ k

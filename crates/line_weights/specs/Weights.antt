@@ -27,6 +27,10 @@ leadOf f c recip start stop = first (weighs f c recip) start (stop - start)
 abbrev pub weightFrom : FilterType → Float → Float → ℕ → ℕ → Float
 weightFrom f c recip a k = lineWeight f c recip (a + k)
 
+-- the first of n weights from the line a on; +0 where there are none
+unfoldable pub firstWeight : FilterType → Float → Float → ℕ → ℕ → Float
+firstWeight f c recip a n = cond (ltb 0 n) (lineWeight f c recip a) zero64
+
 -- one more weight added, in line order
 abbrev pub addTo : FilterType → Float → Float → ℕ → Float → ℕ → Float
 addTo f c recip a t k = t plus weightFrom f c recip a k

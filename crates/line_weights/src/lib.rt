@@ -9,3 +9,9 @@ pub use weights::finish;
 pub use weights::lead;
 pub use weights::trim;
 pub use weights::weigh;
+
+// A camera line and its weight, before the division.
+pub struct Weighed {
+    pub line: windows::CameraLine,
+    pub weight: f64,
+}

@@ -4,8 +4,9 @@ ghost use mathlib.Core.Path.{_≡_};
 ghost use Prim.Native.Nat.{_+_, _-_, _≤_, _<_, _^_};
 ghost use lib.ListN.{length};
 ghost use Rattle.lists.specs.Tab.{tab, front};
-ghost use Rattle.line_weights.specs.Weights.{lineWeight, leadOf, weightFrom, totalOf, upTo, shareOf};
+ghost use Rattle.line_weights.specs.Weights.{lineWeight, leadOf, firstWeight, weightFrom, totalOf, upTo, shareOf};
 ghost use Rattle.line_weights.specs.Weights.{weighty, shareAt};
+use crate::Weighed;
 use filters::FilterType;
 use windows::CameraLine;
 
@@ -16,34 +17,45 @@ fn line_weight(f: FilterType, c: f64, recip: f64, x: CameraLine) -> f64
     filters::value(f, (x.0 as f64 - c) * recip)
 }
 
-// The first line of the range whose weight is not 0, or its end: leading zeros are dropped.
-pub fn lead(f: FilterType, c: f64, recip: f64, start: CameraLine, stop: CameraLine) -> CameraLine
-    ensures answer { λ r. ⌜ r .0 ≡ leadOf f c recip (start .0) (stop .0) ⌝ }
+// The first line of the range whose weight is not 0, or its end: leading zeros are dropped. Its weight goes with it, so that `weigh` need not work it out.
+pub fn lead(f: FilterType, c: f64, recip: f64, start: CameraLine, stop: CameraLine) -> Weighed
+    ensures answer { λ r. ⌜ (r .line .0 ≡ leadOf f c recip (start .0) (stop .0)) × (r .weight ≡ firstWeight f c recip (r .line .0) (stop .0 - r .line .0)) ⌝ }
 {
     let mut x = start.0;
     while x < stop.0 {
-        if !(line_weight(f, c, recip, CameraLine(x)) == 0.0) {
-            return CameraLine(x);
+        let w = line_weight(f, c, recip, CameraLine(x));
+        if !(w == 0.0) {
+            return Weighed {
+                line: CameraLine(x),
+                weight: w,
+            };
         }
         x += 1;
     }
-    CameraLine(x)
+    Weighed {
+        line: CameraLine(x),
+        weight: 0.0,
+    }
 }
 
-// The weights of n lines from the line a on, into the first n slots; their total, in line order from +0.
-pub fn weigh(f: FilterType, c: f64, recip: f64, a: CameraLine, n: usize, row: &mut [f64]) -> f64
-    requires { ⌜ (n ≤ length (now row)) × (a .0 + n < 2 ^ 32) ⌝ }
-    ensures answer { λ r. ⌜ r ≡ totalOf f c recip (a .0) n ⌝ }
-    ensures written { λ _. ⌜ now (row .exit) ≡ front n (weightFrom f c recip (a .0)) (now (row .entry)) ⌝ }
+// The weights of n lines from the line a on, the first of them known, into the first n slots; their total, in line order from +0.
+pub fn weigh(f: FilterType, c: f64, recip: f64, a: Weighed, n: usize, row: &mut [f64]) -> f64
+    requires { ⌜ (n ≤ length (now row)) × (a .line .0 + n < 2 ^ 32) × (a .weight ≡ firstWeight f c recip (a .line .0) n) ⌝ }
+    ensures answer { λ r. ⌜ r ≡ totalOf f c recip (a .line .0) n ⌝ }
+    ensures written { λ _. ⌜ now (row .exit) ≡ front n (weightFrom f c recip (a .line .0)) (now (row .entry)) ⌝ }
 {
-    let mut total = 0.0;
-    let mut x = a.0;
-    let mut k: usize = 0;
+    if n == 0 {
+        return 0.0;
+    }
+    row[0] = a.weight;
+    let mut total = 0.0 + a.weight;
+    let mut x = a.line.0;
+    let mut k: usize = 1;
     while k < n {
+        x += 1;
         let w = line_weight(f, c, recip, CameraLine(x));
         row[k] = w;
         total = total + w;
-        x += 1;
         k += 1;
     }
     total

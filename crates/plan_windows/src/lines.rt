@@ -40,9 +40,10 @@ fn one_window(p: Plan, line: DisplayLine, row: &mut [f64]) -> Span
     let start = range_start(centre, p.radius);
     let stop = range_end(centre, p.radius, p.side);
     let c = centre - 0.5;
-    let a = lead(f, c, p.recip, start, stop);
+    let first = lead(f, c, p.recip, start, stop);
+    let a = first.line;
     let n = lines_left(a, stop);
-    let total = weigh(f, c, p.recip, a, n, row);
+    let total = weigh(f, c, p.recip, first, n, row);
     let size = trim(n, row) as u32;
     finish(n, total, row);
     Span {

@@ -6,7 +6,9 @@ use mathlib.Core.Path.{_≡_, refl, sym, _∙_}
 use mathlib.Core.Bool.{true, false}
 use Rattle.lists.specs.Tab.{first}
 use Rattle.lists.proofs.FirstLaws.{first-stop, first-on}
-use Rattle.line_weights.specs.Weights.{leadOf, weighs}
+use Rattle.line_weights.specs.Weights.{leadOf, weighs, firstWeight}
+use Rattle.line_weights.proofs.WeightLaws.{first-weight}
+use native.Mathlib.Nat.{add-zero}
 use borrow.Author.Needs.{needs}
 use native.Mathlib.Omega.{arith}
 
@@ -27,8 +29,10 @@ returns : tie.Need-returns Inv-loop μ-loop
 returns c =
     let at = c .before .before .before .before in
     let args = at .before .args in
-    let here : weighs (args .f) (args .c) (args .recip) (at .loop .x) ≡ true = rw (← c .before .line-weight .ensures) (c .if2 .taken) in
-    sym (at .loop .inv ∙ first-stop (weighs (args .f) (args .c) (args .recip)) (at .loop .x) (args .stop .0 - at .loop .x) (omega arith) here)
+    let here : weighs (args .f) (args .c) (args .recip) (at .loop .x) ≡ true = rw (← c .before .line-weight .ensures) (c .if2 .taken) in (
+      sym (at .loop .inv ∙ first-stop (weighs (args .f) (args .c) (args .recip)) (at .loop .x) (args .stop .0 - at .loop .x) (omega arith) here),
+      c .before .line-weight .ensures ∙ rw (first-weight (args .f) (args .c) (args .recip) (at .loop .x) (args .stop .0 - at .loop .x) (omega arith), add-zero),
+    )
 
 add-x : tie.Need-add-x Inv-loop μ-loop
 add-x c = search needs
@@ -45,10 +49,11 @@ loop-again c =
     at .loop .inv ∙ first-on (weighs (args .f) (args .c) (args .recip)) (at .loop .x) (args .stop .0 - at .loop .x) (omega arith) here ∙ rw left
 
 returns-2 : tie.Need-returns-2 Inv-loop μ-loop
+unfolding firstWeight
 returns-2 c =
     let args = c .before .before .before .args in
     let none : args .stop .0 - c .before .before .loop .x ≡ 0 = omega arith in
-    sym (c .before .before .loop .inv ∙ rw none)
+    (sym (c .before .before .loop .inv ∙ rw none), rw none)
 
 pub lead-spec : {M : Type 1} → statement M
 lead-spec =

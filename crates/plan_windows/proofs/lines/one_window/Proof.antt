@@ -15,23 +15,23 @@ use Rattle.line_weights.specs.Weights.{weighty}
 use Rattle.plan_windows.proofs.LineLaws.{held-room, lead-is, held-is, total-is, size-is, row-is, span-is}
 use Rattle.line_weights.proofs.WeightLaws.{up-le}
 
-lead-eq : (c : tie.After-lines-left) → c .before .lead .result .0 ≡ lead (c .before .before .before .before .before .before .before .before .args .p) (c .before .before .before .before .before .before .before .before .args .line .0)
+lead-eq : (c : tie.After-lines-left) → c .before .before .lead .result .line .0 ≡ lead (c .before .before .before .before .before .before .before .before .before .args .p) (c .before .before .before .before .before .before .before .before .before .args .line .0)
 unfolding centre
 lead-eq c =
-    let s = c .before .before .before .before .before .before .before .before .args in
-    lead-is (s .p) (s .line .0) (c .before .before .before .range-start .result .0) (c .before .before .range-end .result .0) (c .before .lead .result .0)
-    (c .before .before .before .range-start .ensures) (c .before .before .range-end .ensures) (c .before .lead .ensures)
+    let s = c .before .before .before .before .before .before .before .before .before .args in
+    lead-is (s .p) (s .line .0) (c .before .before .before .before .range-start .result .0) (c .before .before .before .range-end .result .0) (c .before .before .lead .result .line .0)
+    (c .before .before .before .before .range-start .ensures) (c .before .before .before .range-end .ensures) (c .before .before .lead .ensures .0)
 
-held-eq : (c : tie.After-lines-left) → c .lines-left .result ≡ held (c .before .before .before .before .before .before .before .before .args .p) (c .before .before .before .before .before .before .before .before .args .line .0)
+held-eq : (c : tie.After-lines-left) → c .lines-left .result ≡ held (c .before .before .before .before .before .before .before .before .before .args .p) (c .before .before .before .before .before .before .before .before .before .args .line .0)
 unfolding centre
 held-eq c =
-    let s = c .before .before .before .before .before .before .before .before .args in
-    held-is (s .p) (s .line .0) (c .before .before .range-end .result .0) (c .before .lead .result .0) (c .lines-left .result)
-    (c .before .before .range-end .ensures) (lead-eq c) (c .lines-left .ensures)
+    let s = c .before .before .before .before .before .before .before .before .before .args in
+    held-is (s .p) (s .line .0) (c .before .before .before .range-end .result .0) (c .before .before .lead .result .line .0) (c .lines-left .result)
+    (c .before .before .before .range-end .ensures) (lead-eq c) (c .lines-left .ensures)
 
-room : (c : tie.After-lines-left) → c .lines-left .result ≤ length (c .before .before .before .before .before .before .before .before .args .row .now)
+room : (c : tie.After-lines-left) → c .lines-left .result ≤ length (c .before .before .before .before .before .before .before .before .before .args .row .now)
 room c =
-    let s = c .before .before .before .before .before .before .before .before in
+    let s = c .before .before .before .before .before .before .before .before .before in
     omega (arith, held-eq c, held-room (s .args .p) (s .args .line .0) (length (s .args .row .now)) (s .pre))
 
 small : (a e n : ℕ) → n ≡ e - a → a < 2 ^ 32 → e < 2 ^ 32 → a + n < 2 ^ 32
@@ -56,15 +56,21 @@ lines-left-requires c κs = search needs
 
 weigh-requires : tie.Need-weigh-requires
 unfolding centre
-weigh-requires c κs = (room (c .before), small (c .before .before .lead .result .0) (c .before .before .before .range-end .result .0) (c .before .lines-left .result) (c .before .lines-left .ensures) (omega arith) (omega arith))
+weigh-requires c κs =
+    let a = c .before .before .before .lead in
+    let n = c .before .lines-left in (
+      room (c .before),
+      small (a .result .line .0) (c .before .before .before .before .range-end .result .0) (n .result) (n .ensures) (omega arith) (omega arith),
+      rw (n .ensures) (a .ensures .1),
+    )
 
 trim-requires : tie.Need-trim-requires
 unfolding centre
 trim-requires c κs =
     let at = c .before .before .before in
-    let s = at .before .before .before .before .before .before .before .before .before .before .args in
+    let s = at .before .before .before .before .before .before .before .before .before .before .before .args in
     let n = at .before .before .lines-left .result in
-    let f = weightFrom (s .p .filter) (middle (s .p) (s .line .0)) (s .p .recip) (at .before .before .before .lead .result .0) in
+    let f = weightFrom (s .p .filter) (middle (s .p) (s .line .0)) (s .p .recip) (at .before .before .before .before .lead .result .line .0) in
     let long : length (at .weigh .last .1 .1 .1 .1 .1 .0) ≡ length (s .row .now) =
     rw (at .weigh .ensures .1) (length-front n f (s .row .now) (room (at .before .before))) in
     le-trans (room (at .before .before)) (le-of-eq (sym long))
@@ -72,7 +78,7 @@ trim-requires c κs =
 cast-size : tie.Need-cast-size
 cast-size c =
     let at = c .before .before .before .before in
-    let s = at .before .before .before .before .before .before .before .before .before .before in
+    let s = at .before .before .before .before .before .before .before .before .before .before .before in
     let n = at .before .before .lines-left .result in
     let few : c .trim .result ≤ n = le-trans (le-of-eq (c .trim .ensures)) (up-le (weighty (at .weigh .last .1 .1 .1 .1 .1 .0)) n) in
     omega (arith, few, room (at .before .before), s .pre .room, s .pre .narrow)
@@ -89,10 +95,10 @@ returns c =
     let tr = c .before .before .before .before in
     let at = tr .before .before .before .before in
     let left = at .before .before in
-    let st = left .before .before .before .before .before .before .before .before in
+    let st = left .before .before .before .before .before .before .before .before .before in
     let p = st .args .p in
     let i = st .args .line .0 in
-    let a = left .before .lead .result .0 in
+    let a = left .before .before .lead .result .line .0 in
     let n = left .lines-left .result in
     let t = at .weigh .result in
     let row1 = at .weigh .last .1 .1 .1 .1 .1 .0 in
