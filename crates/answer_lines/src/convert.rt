@@ -1,16 +1,31 @@
-// Elements as the numbers that an answer shows for them.
-pub(crate) fn from_u8(x: u8) -> u64 {
-    x as u64
+// Elements as an answer shows them.
+
+// Whether an element is below 0, its size, and its hexadecimal digits, 0 where it is shown in decimal.
+pub(crate) struct Shown {
+    pub(crate) below: bool,
+    pub(crate) size: u64,
+    pub(crate) places: usize,
 }
 
-// So too of 16 bits.
-pub(crate) fn from_u16(x: u16) -> u64 {
-    x as u64
+// A number in decimal.
+fn decimal(v: u64) -> Shown {
+    Shown {
+        below: false,
+        size: v,
+        places: 0,
+    }
 }
 
-// So too of 32 bits.
-pub(crate) fn from_u32(x: u32) -> u64 {
-    x as u64
+pub(crate) fn from_u8(x: u8) -> Shown {
+    decimal(x as u64)
+}
+
+pub(crate) fn from_u16(x: u16) -> Shown {
+    decimal(x as u64)
+}
+
+pub(crate) fn from_u32(x: u32) -> Shown {
+    decimal(x as u64)
 }
 
 // The size of an i32.
@@ -21,13 +36,29 @@ pub fn size(v: i32) -> u64 {
     v as u64
 }
 
-// A signed number of 16 bits as one of 32.
-pub(crate) fn from_i16(x: i16) -> i32 {
-    x as i32
+pub(crate) fn from_i16(x: i16) -> Shown {
+    from_i32(x as i32)
+}
+
+pub(crate) fn from_i32(x: i32) -> Shown {
+    Shown {
+        below: x < 0,
+        size: size(x),
+        places: 0,
+    }
+}
+
+// A pattern in so many hexadecimal digits.
+fn pattern(v: u64, places: usize) -> Shown {
+    Shown {
+        below: false,
+        size: v,
+        places: places,
+    }
 }
 
 // The pattern of a single; one pattern for every NaN.
-pub(crate) fn from_f32(x: f32) -> u32 {
+fn bits32(x: f32) -> u32 {
     if x != x {
         return 0x7fc0_0000;
     }
@@ -35,9 +66,17 @@ pub(crate) fn from_f32(x: f32) -> u32 {
 }
 
 // The pattern of a double; one pattern for every NaN.
-pub(crate) fn from_f64(x: f64) -> u64 {
+pub(crate) fn bits64(x: f64) -> u64 {
     if x != x {
         return 0x7ff8_0000_0000_0000;
     }
     f64::to_bits(x)
+}
+
+pub(crate) fn from_f32(x: f32) -> Shown {
+    pattern(bits32(x) as u64, 8)
+}
+
+pub(crate) fn from_f64(x: f64) -> Shown {
+    pattern(bits64(x), 16)
 }

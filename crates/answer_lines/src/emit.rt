@@ -1,5 +1,6 @@
 // Bytes, words and numbers into the output's buffer, which is written out whenever it is full. Each gives the next place.
 use crate::convert;
+use crate::convert::Shown;
 use libc::STDERR_FILENO;
 use libc::STDOUT_FILENO;
 
@@ -37,7 +38,7 @@ pub fn word(s: &[u8], n: usize, out: &mut [u8]) -> usize {
 
 // A u32 in decimal.
 pub fn whole(v: u32, n: usize, out: &mut [u8]) -> usize {
-    number(convert::from_u32(v), n, out)
+    number(v as u64, n, out)
 }
 
 // A space and a u32.
@@ -60,9 +61,14 @@ pub fn hex(v: u64, places: usize, n: usize, out: &mut [u8]) -> usize {
     word(&text[..k], n, out)
 }
 
+// A byte as two hexadecimal digits.
+pub(crate) fn pair(b: u8, n: usize, out: &mut [u8]) -> usize {
+    hex(b as u64, 2, n, out)
+}
+
 // A double's pattern.
 pub fn double(v: f64, n: usize, out: &mut [u8]) -> usize {
-    hex(convert::from_f64(v), 16, n, out)
+    hex(convert::bits64(v), 16, n, out)
 }
 
 // A space and a double's pattern.
@@ -79,26 +85,17 @@ fn comma(i: usize, n: usize, out: &mut [u8]) -> usize {
     byte(b',', n, out)
 }
 
-// Element i of a list.
-pub(crate) fn item(i: usize, v: u64, n: usize, out: &mut [u8]) -> usize {
+// Element i of a list: a comma, a minus sign, the number in decimal or in so many hexadecimal digits.
+pub(crate) fn item(i: usize, e: Shown, n: usize, out: &mut [u8]) -> usize {
     let p = comma(i, n, out);
-    number(v, p, out)
-}
-
-// Element i of a list of patterns.
-pub(crate) fn hex_item(i: usize, v: u64, places: usize, n: usize, out: &mut [u8]) -> usize {
-    let p = comma(i, n, out);
-    hex(v, places, p, out)
-}
-
-// Element i of a list of signed numbers.
-pub(crate) fn signed_item(i: usize, v: i32, n: usize, out: &mut [u8]) -> usize {
-    let p = comma(i, n, out);
-    if v < 0 {
+    if e.below {
         let q = byte(b'-', p, out);
-        return number(convert::size(v), q, out);
+        return number(e.size, q, out);
     }
-    number(convert::size(v), p, out)
+    if e.places == 0 {
+        return number(e.size, p, out);
+    }
+    hex(e.size, e.places, p, out)
 }
 
 // Writes out what is left in the buffer.

@@ -3,15 +3,9 @@
 // which no contract can speak. Every function is safe at every argument.
 mod convert;
 pub mod emit;
-pub mod f32s;
-pub mod f64s;
 mod fault;
-pub mod i16s;
-pub mod i32s;
 mod said;
-pub mod u16s;
-pub mod u32s;
-pub mod u8s;
+mod shown;
 
 pub use convert::size;
 pub use fault::bad;
@@ -19,3 +13,32 @@ pub use said::Said;
 pub use said::closed;
 pub use said::told;
 pub use said::unsaid;
+
+pub mod u8s {
+    pub use crate::shown::show_hex;
+    pub use crate::shown::show_u8 as show;
+}
+
+pub mod u16s {
+    pub use crate::shown::show_u16 as show;
+}
+
+pub mod u32s {
+    pub use crate::shown::show_u32 as show;
+}
+
+pub mod i16s {
+    pub use crate::shown::show_i16 as show;
+}
+
+pub mod i32s {
+    pub use crate::shown::show_i32 as show;
+}
+
+pub mod f32s {
+    pub use crate::shown::show_f32 as show;
+}
+
+pub mod f64s {
+    pub use crate::shown::show_f64 as show;
+}

@@ -4,11 +4,11 @@ use Rattle.answer_lines.proofs.convert.from_i16.Statement.{statement}
 use Rattle.answer_lines.proofs.convert.from_i16.Tie as tie
 use mir.Facts.{fits-ofZ, sfits-toZ, sfits-widen}
 
-cast-result : tie.Need-cast-result
-cast-result c = sfits-widen tt (sfits-toZ (fits-ofZ (c .fits .x)))
+cast-from-i32 : tie.Need-cast-from-i32
+cast-from-i32 c = sfits-widen tt (sfits-toZ (fits-ofZ (c .fits .x)))
 
 returns : tie.Need-returns
 returns c = search needs
 
 pub from-i16-spec : {M : Type 1} → statement M
-from-i16-spec = tie.close (tie.spec cast-result returns)
+from-i16-spec = tie.close (tie.spec cast-from-i32 (λ c κs. search needs) returns)
