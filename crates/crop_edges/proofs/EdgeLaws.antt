@@ -16,9 +16,9 @@ use Rattle.floats.proofs.Integers.{whole-val}
 use Rattle.floats.proofs.Value.{div-values}
 use Rattle.lists.proofs.FirstLaws.{first-ge, first-le}
 use Rattle.lists.proofs.BoolLaws.{never, and-left, and-right}
-use Rattle.text.specs.Digits.{digits, numeral}
+use Rattle.numerals.specs.Digits.{digits, numeral}
 use Rattle.crop_edges.specs.Edge.{isPattern, minus, wholeAt, isPoint, pointAt, fractionAt, beforeOf, placesOf, isDecimal, wholeOf}
-use Rattle.text.proofs.DigitLaws.{numeral-small}
+use Rattle.numerals.proofs.DigitLaws.{numeral-small}
 
 -- both tests hold, or one fails
 pub both : (a b : Bool) → not a || not b ≡ false → a && b ≡ true

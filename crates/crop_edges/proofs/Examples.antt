@@ -4,7 +4,7 @@ use mathlib.Core.Path.{_≡_, refl}
 use lib.Ieee.{binary64, ofBits, round, inf}
 use mathlib.Core.Bool.{false}
 use Rattle.crop_edges.specs.declared.Edge.the-variants.{At, Malformed}
-use Rattle.text.specs.Digits.{digitOf, digits, figure, numeral}
+use Rattle.numerals.specs.Digits.{digitOf, digits, figure, numeral}
 use Rattle.crop_edges.specs.Edge.{isPattern, patternOf, minus, wholeAt, pointAt, fractionAt, beforeOf, placesOf, isDecimal, wholeOf, edgeOf}
 
 -- 0.1 is the double nearest to a tenth, 3fb999999999999a

@@ -9,7 +9,7 @@ use lib.Ieee.{binary64, round, ofBits}
 use Rattle.lists.specs.Tab.{first}
 use Rattle.crop_edges.specs.declared.Edge.{Edge}
 use Rattle.crop_edges.specs.declared.Edge.the-variants.{At, Malformed}
-use Rattle.text.specs.Digits.{digits, numeral}
+use Rattle.numerals.specs.Digits.{digits, numeral}
 
 -- `0x` and 16 hexadecimal digits
 unfoldable pub isPattern : List ℕ → Bool

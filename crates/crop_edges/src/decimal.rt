@@ -5,8 +5,8 @@ ghost use Prim.Native.Nat.{_^_, _≤_};
 ghost use lib.Ieee.{binary64, round};
 ghost use Rattle.crop_edges.specs.Edge.{minus, wholeAt, pointAt, fractionAt, beforeOf, placesOf, isDecimal, wholeOf};
 use crate::digits::continued;
+use numerals::all_digits;
 use std::num::nearest_u64_to_f64;
-use text::all_digits;
 
 // Whether the text begins with a minus sign.
 fn minus(text: &[u8]) -> bool

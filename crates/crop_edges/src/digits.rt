@@ -2,8 +2,8 @@
 ghost use mathlib.Core.Path.{_≡_};
 ghost use Prim.Native.Nat.{_+_, _*_, _^_, _<_, _≤_};
 ghost use lib.ListN.{length};
-ghost use Rattle.text.specs.Digits.{numeral};
-use text::figure;
+ghost use Rattle.numerals.specs.Digits.{numeral};
+use numerals::figure;
 
 // The whole number v continued by n digits from the place a on.
 pub(crate) fn continued(base: u64, text: &[u8], a: usize, n: usize, v: u64) -> u64

@@ -4,7 +4,7 @@ ghost use mathlib.Core.Bool.{true};
 ghost use lib.Ieee.{binary64, ofBits};
 ghost use Rattle.crop_edges.specs.Edge.{isPattern, patternOf};
 use crate::digits::continued;
-use text::all_digits;
+use numerals::all_digits;
 
 // Whether the text has the form of a pattern.
 pub(crate) fn is_pattern(text: &[u8]) -> bool

@@ -6,7 +6,7 @@
 //   k a filter's name, which is looked up by whoever knows the filters.
 use crate::pairs;
 use crate::signed;
-use text::Number;
+use numerals::Number;
 
 // The largest number of a kind.
 fn most(kind: u8) -> u64 {
@@ -44,7 +44,7 @@ pub(crate) fn item(s: &[u8], a: usize, e: usize, kind: u8) -> Number {
         if n != digits {
             return Number::Malformed;
         }
-        return text::read_number(16, s, a, n, most(kind));
+        return numerals::read_number(16, s, a, n, most(kind));
     }
     if (kind == b'i') | (kind == b'j') {
         return signed::code(s, a, n, most(kind));
@@ -55,7 +55,7 @@ pub(crate) fn item(s: &[u8], a: usize, e: usize, kind: u8) -> Number {
     if kind == b't' {
         return pairs::whole(s, a, e);
     }
-    text::read_number(10, s, a, n, most(kind))
+    numerals::read_number(10, s, a, n, most(kind))
 }
 
 // Its value, 0 where it is malformed.

@@ -1,10 +1,10 @@
 // A text as a line has it: two hexadecimal digits a byte, `-` where it is empty.
 use crate::words;
-use text::Number;
+use numerals::Number;
 
 // The byte of the two digits at a place, 256 where they are none.
 pub(crate) fn byte(s: &[u8], at: usize) -> u64 {
-    match text::read_number(16, s, at, 2, 255) {
+    match numerals::read_number(16, s, at, 2, 255) {
         Number::Is(x) => x,
         Number::TooLarge => 256,
         Number::Malformed => 256,

@@ -1,5 +1,5 @@
 // Signed numbers of a line: read as a code, 2 x for x and 2 x + 1 for -(x + 1), so that no signed arithmetic is needed but -1 - y.
-use text::Number;
+use numerals::Number;
 
 // The n bytes from a on as a signed number from -(most + 1) to most, as its code.
 pub(crate) fn code(s: &[u8], a: usize, n: usize, most: u64) -> Number {
@@ -13,9 +13,9 @@ pub(crate) fn code(s: &[u8], a: usize, n: usize, most: u64) -> Number {
         return Number::Malformed;
     }
     if s[a] == b'-' {
-        return negative(text::read_number(10, s, a + 1, n - 1, most + 1));
+        return negative(numerals::read_number(10, s, a + 1, n - 1, most + 1));
     }
-    positive(text::read_number(10, s, a, n, most))
+    positive(numerals::read_number(10, s, a, n, most))
 }
 
 // The code of a number below 0, from its size; `-0` is malformed.

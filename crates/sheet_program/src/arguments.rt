@@ -1,8 +1,8 @@
 // One argument, as a name, a whole number or an edge; and what is wrong with it where it is none of these.
 use crop_edges::Edge;
 use filters::FilterType;
+use numerals::Number;
 use sheet::keys;
-use text::Number;
 
 // A filter's name read.
 pub(crate) enum Name {
@@ -78,9 +78,9 @@ fn whole_of(word: &[u8]) -> Whole {
         return Whole::Malformed;
     }
     if word[0] == b'-' {
-        return below(text::read_number(10, word, 1, n - 1, 0));
+        return below(numerals::read_number(10, word, 1, n - 1, 0));
     }
-    held(text::read_number(10, word, 0, n, 0xffff_ffff))
+    held(numerals::read_number(10, word, 0, n, 0xffff_ffff))
 }
 
 // Whether a word has a capital letter.

@@ -14,14 +14,6 @@ use Rattle.text.proofs.decimal.put_field.Kinds as put-field
 use Rattle.text.proofs.decimal.put_field.Reads as put-field-reads
 use Rattle.text.proofs.decimal.put_line.Kinds as put-line
 use Rattle.text.proofs.decimal.put_line.Reads as put-line-reads
-use Rattle.text.proofs.digits.digit.Kinds as digit
-use Rattle.text.proofs.digits.digit.Reads as digit-reads
-use Rattle.text.proofs.digits.figure.Kinds as figure
-use Rattle.text.proofs.digits.figure.Reads as figure-reads
-use Rattle.text.proofs.digits.all_digits.Kinds as all-digits
-use Rattle.text.proofs.digits.all_digits.Reads as all-digits-reads
-use Rattle.text.proofs.digits.read_number.Kinds as read-number
-use Rattle.text.proofs.digits.read_number.Reads as read-number-reads
 use Rattle.text.proofs.words.shared.Kinds as shared
 use Rattle.text.proofs.words.shared.Reads as shared-reads
 
@@ -42,18 +34,6 @@ put-field-decides κs a x y s t p q = (p .0 ∙ sym (q .0), p .1 ∙ sym (q .1))
 
 pub put-line-decides : Decides put-line.ps put-line.r put-line-reads.Post (λ κs s t. now (s .1 .1 .1 .0) ≡ now (t .1 .1 .1 .0))
 put-line-decides κs a x y s t p q = (p .0 ∙ sym (q .0), p .1 ∙ sym (q .1))
-
-pub digit-decides : DecidesResult digit.ps digit.r digit-reads.Post
-digit-decides κs a x y s t p q = p ∙ sym q
-
-pub figure-decides : DecidesResult figure.ps figure.r figure-reads.Post
-figure-decides κs a x y s t p q = p ∙ sym q
-
-pub all-digits-decides : DecidesResult all-digits.ps all-digits.r all-digits-reads.Post
-all-digits-decides κs a x y s t p q = p ∙ sym q
-
-pub read-number-decides : DecidesResult read-number.ps read-number.r read-number-reads.Post
-read-number-decides κs a x y s t p q = p ∙ sym q
 
 pub shared-decides : DecidesResult shared.ps shared.r shared-reads.Post
 shared-decides κs a x y s t p q = p ∙ sym q

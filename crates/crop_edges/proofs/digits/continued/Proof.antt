@@ -4,8 +4,8 @@ use Prim.Native.Nat.{_-_, _≤_}
 use mathlib.Core.Path.{_≡_, refl}
 use native.Mathlib.Omega.{arith}
 use Rattle.lists.proofs.TurnLaws.{turns-more}
-use Rattle.text.specs.Digits.{numeral, behind}
-use Rattle.text.proofs.DigitLaws.{numeral-room}
+use Rattle.numerals.specs.Digits.{numeral, behind}
+use Rattle.numerals.proofs.DigitLaws.{numeral-room}
 use Rattle.crop_edges.proofs.digits.continued.Statement.{statement}
 use Rattle.crop_edges.proofs.digits.continued.Tie as tie
 

@@ -14,7 +14,7 @@ use Rattle.lists.specs.Tab.{any}
 use Rattle.lists.proofs.AnyLaws.{any-none}
 use Rattle.lists.proofs.BoolLaws.{never}
 use Rattle.lists.proofs.TurnLaws.{turns-more}
-use Rattle.text.specs.Digits.{digitOf, figure, behind, numeral}
+use Rattle.numerals.specs.Digits.{digitOf, figure, behind, numeral}
 
 -- one that passes: some does
 pub any-some : (t : ℕ → Bool) (n k : ℕ) → k < n → t k ≡ true → any n t ≡ true

@@ -9,10 +9,10 @@ use lib.ListN.{getD}
 use lib.Dec.{ltb}
 use borrow.Author.Needs.{needs}
 use borrow.Author.Tests.{lt-ltb, le-ltb, ltb-true, ltb-false}
-use Rattle.text.specs.Digits.{figure, numeral}
-use Rattle.text.proofs.DigitLaws.{numeral-more, numeral-grows}
-use Rattle.text.proofs.digits.bounded.Statement.{statement}
-use Rattle.text.proofs.digits.bounded.Tie as tie
+use Rattle.numerals.specs.Digits.{figure, numeral}
+use Rattle.numerals.proofs.DigitLaws.{numeral-more, numeral-grows}
+use Rattle.numerals.proofs.digits.bounded.Statement.{statement}
+use Rattle.numerals.proofs.digits.bounded.Tie as tie
 
 abbrev Inv-loop : tie.InvT-loop
 Inv-loop base text a n most sum₀ k₀ sum k = (k ≤ n) × (sum ≡ numeral base text a 0 k) × (sum ≤ most)

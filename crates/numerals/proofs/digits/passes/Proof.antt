@@ -7,8 +7,8 @@ use native.Mathlib.Omega.{arith}
 use lib.Dec.{ltb}
 use borrow.Author.Needs.{needs}
 use borrow.Author.Tests.{lt-ltb, le-ltb, ltb-true, ltb-false}
-use Rattle.text.proofs.digits.passes.Statement.{statement}
-use Rattle.text.proofs.digits.passes.Tie as tie
+use Rattle.numerals.proofs.digits.passes.Statement.{statement}
+use Rattle.numerals.proofs.digits.passes.Tie as tie
 
 above : (v base d most : ℕ) → 0 < base → d ≤ most → ltb ((most - d) / base) v ≡ ltb most (v * base + d)
 above v base d most some h = by (ltb ((most - d) / base) v) refl

@@ -1,9 +1,9 @@
 -- The tests are those of the definition, in its order. Assumes nothing.
 use borrow.Author.Needs.{needs}
 use borrow.Author.Tests.{lt-ltb, le-ltb, le-leb, lt-leb}
-use Rattle.text.specs.Digits.{digitOf}
-use Rattle.text.proofs.digits.digit.Statement.{statement}
-use Rattle.text.proofs.digits.digit.Tie as tie
+use Rattle.numerals.specs.Digits.{digitOf}
+use Rattle.numerals.proofs.digits.digit.Statement.{statement}
+use Rattle.numerals.proofs.digits.digit.Tie as tie
 
 returns : tie.Need-returns
 unfolding digitOf

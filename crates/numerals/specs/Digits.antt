@@ -6,8 +6,8 @@ use Prim.Native.Nat.{ℕ, _+_, _-_, _*_}
 use lib.Dec.{eqb, ltb, leb}
 use lib.ListN.{getD}
 use Rattle.lists.specs.Tab.{any, turns}
-use Rattle.text.specs.declared.Number.{Number}
-use Rattle.text.specs.declared.Number.the-variants.{Is, TooLarge, Malformed}
+use Rattle.numerals.specs.declared.Number.{Number}
+use Rattle.numerals.specs.declared.Number.the-variants.{Is, TooLarge, Malformed}
 
 -- the digit that a byte stands for: 0 to 9, then a to f for 10 to 15; 255 for a byte that is no digit
 unfoldable pub digitOf : ℕ → ℕ

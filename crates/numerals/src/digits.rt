@@ -5,8 +5,8 @@ ghost use mathlib.Core.Bool.{cond};
 ghost use Prim.Native.Nat.{_+_, _*_, _<_};
 ghost use lib.Dec.{ltb};
 ghost use lib.ListN.{getD};
-ghost use Rattle.text.specs.declared.Number.the-variants.{Is, TooLarge};
-ghost use Rattle.text.specs.Digits.{digitOf, figure, digits, numeral, numberOf};
+ghost use Rattle.numerals.specs.declared.Number.the-variants.{Is, TooLarge};
+ghost use Rattle.numerals.specs.Digits.{digitOf, figure, digits, numeral, numberOf};
 
 // The byte k places past a, 0 where the text ends before it.
 pub(crate) fn byte_at(text: &[u8], a: usize, k: usize) -> u8

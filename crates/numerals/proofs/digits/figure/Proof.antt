@@ -1,9 +1,9 @@
 -- The test is the definition's. Assumes nothing.
 use borrow.Author.Tests.{lt-ltb, le-ltb}
-use Rattle.text.specs.Digits.{figure}
+use Rattle.numerals.specs.Digits.{figure}
 use borrow.Author.Needs.{needs}
-use Rattle.text.proofs.digits.figure.Statement.{statement}
-use Rattle.text.proofs.digits.figure.Tie as tie
+use Rattle.numerals.proofs.digits.figure.Statement.{statement}
+use Rattle.numerals.proofs.digits.figure.Tie as tie
 
 digit-requires : tie.Need-digit-requires
 digit-requires c κs = search needs

@@ -8,10 +8,10 @@ use borrow.Author.Needs.{needs}
 use borrow.Author.Tests.{le-leb, lt-leb}
 use Rattle.lists.specs.Tab.{any}
 use Rattle.lists.proofs.AnyLaws.{any-on}
-use Rattle.text.specs.Digits.{digitOf, alien, digits}
-use Rattle.text.proofs.DigitLaws.{any-some}
-use Rattle.text.proofs.digits.all_digits.Statement.{statement}
-use Rattle.text.proofs.digits.all_digits.Tie as tie
+use Rattle.numerals.specs.Digits.{digitOf, alien, digits}
+use Rattle.numerals.proofs.DigitLaws.{any-some}
+use Rattle.numerals.proofs.digits.all_digits.Statement.{statement}
+use Rattle.numerals.proofs.digits.all_digits.Tie as tie
 
 abbrev Inv-loop : tie.InvT-loop
 Inv-loop base text a n k₀ k = (k ≤ n) × (any k (alien base text a) ≡ false)

@@ -7,10 +7,10 @@ use lib.ListN.{getD}
 use native.Mathlib.Omega.{arith}
 use borrow.Author.Needs.{needs}
 use borrow.Author.Tests.{eq-eqb, ne-eqb, le-leb, not-true, not-false}
-use Rattle.text.specs.Digits.{digitOf, alien, digits, numberOf}
-use Rattle.text.proofs.DigitLaws.{any-some}
-use Rattle.text.proofs.digits.read_number.Statement.{statement}
-use Rattle.text.proofs.digits.read_number.Tie as tie
+use Rattle.numerals.specs.Digits.{digitOf, alien, digits, numberOf}
+use Rattle.numerals.proofs.DigitLaws.{any-some}
+use Rattle.numerals.proofs.digits.read_number.Statement.{statement}
+use Rattle.numerals.proofs.digits.read_number.Tie as tie
 
 none : (base : ℕ) (text : List ℕ) (a n : ℕ) → base ≡ 0 → 0 < n → digits base text a n ≡ false
 unfolding digits

@@ -5,8 +5,8 @@ use Prim.Native.Nat.{ℕ, _+_, _≤_}
 use native.Mathlib.Omega.{arith}
 use lib.ListN.{length, getD, List·getD-eq-default}
 use borrow.Author.Needs.{needs}
-use Rattle.text.proofs.digits.byte_at.Statement.{statement}
-use Rattle.text.proofs.digits.byte_at.Tie as tie
+use Rattle.numerals.proofs.digits.byte_at.Statement.{statement}
+use Rattle.numerals.proofs.digits.byte_at.Tie as tie
 
 past : (l : List ℕ) (n : ℕ) → length l ≤ n → 0 ≡ getD l n 0
 past l n h = sym (List·getD-eq-default l 0 {n = n} h)
