@@ -1,9 +1,9 @@
 // The request `fit SW SH DW DH none`, or with two centring numbers in place of `none`.
 use answer_lines::Said;
 use answer_lines::emit;
-use crop_box::Centring;
 use crop_box::CropBox;
-use crop_box::Fitted;
+use crop_fit::Centring;
+use crop_fit::Fitted;
 use request_fields::Fault;
 use request_fields::fields;
 
@@ -31,7 +31,7 @@ pub(crate) fn fit(line: &[u8], n: usize, out: &mut [u8]) -> Said {
         return answer_lines::told(answer_lines::bad(f.word, f.reason, n, out));
     }
     let place = centring(none, line);
-    let fitted = crop_box::fit_src_into_dst_size(
+    let fitted = crop_fit::fit_src_into_dst_size(
         fields::whole(line, 1),
         fields::whole(line, 2),
         fields::whole(line, 3),

@@ -1,4 +1,4 @@
-// The requests `filter`, `crop` and `fit`, answered by `filters` and `crop_box`.
+// The requests `filter`, `crop` and `fit`, answered by `filters`, `crop_box` and `crop_fit`.
 mod fitting;
 
 use answer_lines::Said;

@@ -9,9 +9,9 @@ use Rattle.filters.specs.declared.FilterType.{FilterType}
 use Rattle.filters.specs.declared.FilterType.the-variants.{Box, Bilinear, CatmullRom, Mitchell}
 use Rattle.filters.specs.Filters.{valueOf}
 use Rattle.crop_box.specs.declared.CropBox.{CropBox}
-use Rattle.crop_box.specs.declared.Centring.{Centring}
-use Rattle.crop_box.specs.declared.Centring.the-variants.{Absent, At}
-use Rattle.crop_box.specs.Fit.{fitOf, boxOf, numberOf as numberOfFitted}
+use Rattle.crop_fit.specs.declared.Centring.{Centring}
+use Rattle.crop_fit.specs.declared.Centring.the-variants.{Absent, At}
+use Rattle.crop_fit.specs.Fit.{fitOf, boxOf, numberOf as numberOfFitted}
 use Rattle.plans.specs.declared.Axis.{Axis}
 use Rattle.plans.specs.declared.Request.{Request}
 use Rattle.plans.specs.declared.Axis.the-variants.{Across, Down}

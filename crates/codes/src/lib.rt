@@ -2,7 +2,7 @@
 // a code that names nothing itself, with `badCode`, before it asks here.
 ghost use mathlib.Core.Path.{_≡_};
 ghost use Rattle.codes.specs.Codes.{filterOf, codeOf, axisOf, centringOf};
-use crop_box::Centring;
+use crop_fit::Centring;
 use filters::FilterType;
 use plans::Axis;
 

@@ -1,5 +1,5 @@
 -- For the customer: each of No. 1 to 5 is given exactly when its row of document 01's table says so and no row before it does, and No. 0
--- exactly when no row does; so for every input one row applies and no other. The tests are `badSides` of `lists` and those of specs/Crop.antt and specs/Fit.antt.
+-- exactly when no row does; so for every input one row applies and no other. The tests are `badSides` of `lists` and those of specs/Crop.antt.
 -- Cited by the builder and by docs/CONTRACTS.md. Assumes nothing.
 use mathlib.Core.Path.{_≡_, refl}
 use mathlib.Core.Bool.{Bool, true, false, cond}
@@ -10,11 +10,8 @@ use Rattle.lists.specs.Ranges.{badSides}
 use Rattle.lists.proofs.LadderLaws.{exactly-due}
 use Rattle.refusal.specs.declared.Refusal.the-variants.{BadSide, NotFinite, NegativeExtent, StartOutside, EndOutside}
 use Rattle.crop_box.specs.Crop.{notFinite, negativeExtent, startOutside, endOutside, cropOf, numberOf}
-use Rattle.crop_box.specs.Fit.{largeSides, badCentring, fittedBox, acrossOf, downOf, fitOf, numberOf as fitNumberOf}
 use Rattle.crop_box.specs.declared.CropBox.{CropBox}
 use Rattle.crop_box.specs.declared.Cropped.the-variants.{Inside, Refused}
-use Rattle.crop_box.specs.declared.Fitted.the-variants.{Fit, Refused as FitRefused}
-use Rattle.crop_box.specs.declared.Centring.{Centring}
 
 numbered :
     (a b c d e : Bool) (x : CropBox)
@@ -44,23 +41,3 @@ module _ (w h : ℕ) (b : CropBox) where
 
   pub crop-exactly : (n : ℕ) → Exactly (numberOf (cropOf w h b) ≡ n) (Due n rows)
   crop-exactly n = rw is (exactly-due n rows refl)
-
-fit-numbered : (a b : Bool) (x : CropBox) → fitNumberOf (cond a (FitRefused BadSide) (cond b (FitRefused NotFinite) (Fit x))) ≡ cond a 1 (cond b 2 0)
-fit-numbered true b x = refl
-fit-numbered false true x = refl
-fit-numbered false false x = refl
-
--- fitting: here No. 1 is only for sides above 8,192
-module _ (sw sh dw dh : ℕ) (at : Centring) where
-  abbrev pub fitRows : List (Bool × ℕ)
-  fitRows =
-      (largeSides sw sh dw dh, 1)
-      ∷ (badCentring at, 2)
-      ∷ []
-
-  fit-is : fitNumberOf (fitOf sw sh dw dh at) ≡ given fitRows
-  unfolding fitOf
-  fit-is = fit-numbered (largeSides sw sh dw dh) (badCentring at) (fittedBox sw sh dw dh (acrossOf at) (downOf at))
-
-  pub fit-exactly : (n : ℕ) → Exactly (fitNumberOf (fitOf sw sh dw dh at) ≡ n) (Due n fitRows)
-  fit-exactly n = rw fit-is (exactly-due n fitRows refl)

@@ -1,3 +1,2 @@
 pub mod End
 pub mod Crop
-pub mod Fit

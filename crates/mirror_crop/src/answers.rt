@@ -1,8 +1,8 @@
 // The box beside a fitting's number.
 ghost use mathlib.Core.Path.{_≡_};
-ghost use Rattle.crop_box.specs.Fit.{boxOf};
+ghost use Rattle.crop_fit.specs.Fit.{boxOf};
 use crop_box::CropBox;
-use crop_box::Fitted;
+use crop_fit::Fitted;
 
 // The fitted box, or four zeros.
 pub(crate) fn fitted_box(answer: Fitted) -> CropBox

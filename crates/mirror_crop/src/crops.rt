@@ -73,7 +73,7 @@ pub extern "C" fn mirror_fit(
         *height = 0.0;
         return 100;
     }
-    let answer = crop_box::fit_src_into_dst_size(
+    let answer = crop_fit::fit_src_into_dst_size(
         src_width,
         src_height,
         dst_width,

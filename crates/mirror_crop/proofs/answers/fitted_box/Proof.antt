@@ -2,7 +2,7 @@
 use mathlib.Core.Path.{sym, ap}
 use lib.Ieee.{ofBits}
 use borrow.Author.Needs.{needs}
-use Rattle.crop_box.specs.Fit.{boxOf}
+use Rattle.crop_fit.specs.Fit.{boxOf}
 use Rattle.mirror_crop.proofs.answers.fitted_box.Statement.{statement}
 use Rattle.mirror_crop.proofs.answers.fitted_box.Tie as tie
 

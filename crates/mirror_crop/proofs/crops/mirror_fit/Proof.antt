@@ -3,7 +3,7 @@ use mathlib.Core.Path.{_∙_, ap, refl}
 use borrow.Author.Needs.{needs}
 use borrow.Author.Tests.{lt-ltb, le-ltb}
 use Rattle.crop_box.specs.declared.CropBox.{CropBox}
-use Rattle.crop_box.specs.Fit.{numberOf, boxOf}
+use Rattle.crop_fit.specs.Fit.{numberOf, boxOf}
 use Rattle.codes.specs.Codes.{fitNumber, fitBox}
 use Rattle.mirror_crop.proofs.crops.mirror_fit.Statement.{statement}
 use Rattle.mirror_crop.proofs.crops.mirror_fit.Tie as tie

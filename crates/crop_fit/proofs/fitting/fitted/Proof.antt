@@ -1,9 +1,9 @@
 -- `fitted` meets its contract: the source's box for a zero side, else the box that `ratio_box` gave. Assumes nothing.
 use mathlib.Core.Path.{_∙_, sym}
-use Rattle.crop_box.specs.Fit.{fittedBox}
+use Rattle.crop_fit.specs.Fit.{fittedBox}
 use borrow.Author.Needs.{needs}
-use Rattle.crop_box.proofs.fitting.fitted.Statement.{statement}
-use Rattle.crop_box.proofs.fitting.fitted.Tie as tie
+use Rattle.crop_fit.proofs.fitting.fitted.Statement.{statement}
+use Rattle.crop_fit.proofs.fitting.fitted.Tie as tie
 
 int-to-float-width : tie.Need-int-to-float-width
 int-to-float-width c = search needs

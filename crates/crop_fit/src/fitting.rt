@@ -1,11 +1,11 @@
 // Fitting: its refusals, a zero side, and else the box of the display's ratio of sides.
 ghost use mathlib.Core.Path.{_≡_};
-ghost use Rattle.crop_box.specs.Fit.{fitOf, largeSides, zeroSide, fittedBox};
+ghost use Rattle.crop_fit.specs.Fit.{fitOf, largeSides, zeroSide, fittedBox};
 use crate::Centring;
-use crate::CropBox;
 use crate::Fitted;
 use crate::clamp01;
 use crate::ratios::ratio_box;
+use crop_box::CropBox;
 use numbers::finite;
 use refusal::Refusal;
 

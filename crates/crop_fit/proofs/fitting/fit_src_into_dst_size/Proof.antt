@@ -1,11 +1,11 @@
 -- `fit_src_into_dst_size` meets its contract: the ladder of `fitOf` is rewritten by the tests that led to each return and by the case of the centring; the box is
 -- the one that `fitted` gave. Assumes nothing.
 use mathlib.Core.Path.{_∙_, sym, ap}
-use Rattle.crop_box.specs.Fit.{fitOf}
-use Rattle.crop_box.specs.declared.Fitted.the-variants.{Fit}
+use Rattle.crop_fit.specs.Fit.{fitOf}
+use Rattle.crop_fit.specs.declared.Fitted.the-variants.{Fit}
 use borrow.Author.Needs.{needs}
-use Rattle.crop_box.proofs.fitting.fit_src_into_dst_size.Statement.{statement}
-use Rattle.crop_box.proofs.fitting.fit_src_into_dst_size.Tie as tie
+use Rattle.crop_fit.proofs.fitting.fit_src_into_dst_size.Statement.{statement}
+use Rattle.crop_fit.proofs.fitting.fit_src_into_dst_size.Tie as tie
 
 large-sides-requires : tie.Need-large-sides-requires
 large-sides-requires c κs = search needs

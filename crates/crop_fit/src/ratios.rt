@@ -1,7 +1,7 @@
 // The box of a ratio of sides, placed in the source: operation by operation as in crop_box.rs of the Rust.
 ghost use mathlib.Core.Path.{_≡_};
-ghost use Rattle.crop_box.specs.Fit.{placedBox, ratioBox};
-use crate::CropBox;
+ghost use Rattle.crop_fit.specs.Fit.{placedBox, ratioBox};
+use crop_box::CropBox;
 
 // 2^-52, the step from 1 to the next double.
 const EPSILON: f64 = 2.220446049250313e-16;

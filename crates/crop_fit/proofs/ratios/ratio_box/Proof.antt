@@ -1,8 +1,8 @@
 -- `ratio_box` meets its contract: the tests of the ratios choose one of three extents, and `placed` places it. Assumes nothing.
 use borrow.Author.Needs.{needs}
-use Rattle.crop_box.proofs.ratios.ratio_box.Statement.{statement}
-use Rattle.crop_box.proofs.ratios.ratio_box.Tie as tie
-use Rattle.crop_box.specs.Fit.{ratioBox}
+use Rattle.crop_fit.proofs.ratios.ratio_box.Statement.{statement}
+use Rattle.crop_fit.proofs.ratios.ratio_box.Tie as tie
+use Rattle.crop_fit.specs.Fit.{ratioBox}
 
 abs-requires : tie.Need-abs-requires
 abs-requires c κs = search needs

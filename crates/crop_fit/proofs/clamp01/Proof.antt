@@ -1,6 +1,6 @@
 -- `clamp01` meets its contract: a return for each end of `clamped`, by the tests that led there. Assumes nothing.
-use Rattle.crop_box.proofs.clamp01.Statement.{statement}
-use Rattle.crop_box.proofs.clamp01.Tie as tie
+use Rattle.crop_fit.proofs.clamp01.Statement.{statement}
+use Rattle.crop_fit.proofs.clamp01.Tie as tie
 
 returns : tie.Need-returns
 returns c = rw (c .if1 .taken)

@@ -9,11 +9,11 @@ use Rattle.refusal.specs.Refusal.{numberOf as numberOfRefusal}
 use Rattle.refusal.specs.declared.Refusal.the-variants.{BadSide, NotFinite}
 use Rattle.floats.specs.Doubles.{isFinite, zero64, half64, one64, double, _minus_, _times_, _over_}
 use Rattle.numbers.specs.Whole.{abs}
 use Rattle.crop_box.specs.declared.CropBox.{CropBox}
-use Rattle.crop_box.specs.declared.Centring.{Centring}
-use Rattle.crop_box.specs.declared.Centring.the-variants.{Absent, At}
-use Rattle.crop_box.specs.declared.Fitted.{Fitted}
-use Rattle.crop_box.specs.declared.Fitted.the-variants.{Fit, Refused}
+use Rattle.crop_fit.specs.declared.Centring.{Centring}
+use Rattle.crop_fit.specs.declared.Centring.the-variants.{Absent, At}
+use Rattle.crop_fit.specs.declared.Fitted.{Fitted}
+use Rattle.crop_fit.specs.declared.Fitted.the-variants.{Fit, Refused}
 
 -- x clamped to 0..1; minus zero stays as it is
 abbrev pub clamped : Float → Float

@@ -1,0 +1,3 @@
+pub mod Sure
+pub mod Rows
+pub mod Examples
