@@ -7,6 +7,7 @@ ghost use Prim.Native.Nat.{_+_, _≤_};
 ghost use lib.ListN.{length};
 ghost use Rattle.pixel_lists.specs.Lists.{stored};
 ghost use Rattle.colours_u16.specs.Alpha.{multiplied, divided};
+ghost use Rattle.alpha_u16.specs.Lists.{operation};
 
 // The pixel written with its first component at i.
 fn store4(s: &mut [u16], i: usize, c0: u16, c1: u16, c2: u16, alpha: u16)
@@ -20,7 +21,7 @@ fn store4(s: &mut [u16], i: usize, c0: u16, c1: u16, c2: u16, alpha: u16)
 }
 
 // The pixel with its colours multiplied by its alpha, written with its first component at i.
-pub(crate) fn put_multiplied(s: &mut [u16], i: usize, c0: u16, c1: u16, c2: u16, alpha: u16)
+fn put_multiplied(s: &mut [u16], i: usize, c0: u16, c1: u16, c2: u16, alpha: u16)
     requires { ⌜ i + 4 ≤ length (now s) ⌝ }
     ensures written { λ _. ⌜ now (s .exit) ≡ stored (now (s .entry)) i (multiplied c0 alpha) (multiplied c1 alpha) (multiplied c2 alpha) alpha ⌝ }
 {
@@ -31,7 +32,7 @@ pub(crate) fn put_multiplied(s: &mut [u16], i: usize, c0: u16, c1: u16, c2: u16,
 }
 
 // The pixel with its colours divided by its alpha, written with its first component at i.
-pub(crate) fn put_divided(s: &mut [u16], i: usize, c0: u16, c1: u16, c2: u16, alpha: u16)
+fn put_divided(s: &mut [u16], i: usize, c0: u16, c1: u16, c2: u16, alpha: u16)
     requires { ⌜ i + 4 ≤ length (now s) ⌝ }
     ensures written { λ _. ⌜ now (s .exit) ≡ stored (now (s .entry)) i (divided c0 alpha) (divided c1 alpha) (divided c2 alpha) alpha ⌝ }
 {
@@ -40,4 +41,16 @@ pub(crate) fn put_divided(s: &mut [u16], i: usize, c0: u16, c1: u16, c2: u16, al
     let d1 = div_and_clip16(c1, alpha, recip);
     let d2 = div_and_clip16(c2, alpha, recip);
     store4(s, i, d0, d1, d2, alpha);
+}
+
+// One or the other.
+pub(crate) fn put(divide: bool, s: &mut [u16], i: usize, c0: u16, c1: u16, c2: u16, alpha: u16)
+    requires { ⌜ i + 4 ≤ length (now s) ⌝ }
+    ensures written { λ _. ⌜ now (s .exit) ≡ stored (now (s .entry)) i (operation divide c0 alpha) (operation divide c1 alpha) (operation divide c2 alpha) alpha ⌝ }
+{
+    if divide {
+        put_divided(s, i, c0, c1, c2, alpha);
+    } else {
+        put_multiplied(s, i, c0, c1, c2, alpha);
+    }
 }

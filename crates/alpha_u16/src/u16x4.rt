@@ -1,8 +1,6 @@
 // Lists of pixels of four 16-bit components, as `alpha` has them of 8 bits.
-use crate::divide::divide_into;
-use crate::divide::divide_within;
-use crate::multiply::multiply_into;
-use crate::multiply::multiply_within;
+use crate::loops::apply_into;
+use crate::loops::apply_within;
 use pixel_lists::Applied;
 use pixel_lists::bad_lists;
 use refusal::Refusal;
@@ -18,7 +16,7 @@ pub fn multiply_alpha(src: &[u16], dst: &mut [u16]) -> Applied
     if bad_lists(src.len(), dst.len()) {
         return Applied::Refused(Refusal::DoesNotFit);
     }
-    multiply_into(src, dst);
+    apply_into(false, src, dst);
     Applied::Done
 }
 
@@ -30,7 +28,7 @@ pub fn multiply_alpha_inplace(pixels: &mut [u16]) -> Applied
     if bad_lists(pixels.len(), pixels.len()) {
         return Applied::Refused(Refusal::DoesNotFit);
     }
-    multiply_within(pixels);
+    apply_within(false, pixels);
     Applied::Done
 }
 
@@ -42,7 +40,7 @@ pub fn divide_alpha(src: &[u16], dst: &mut [u16]) -> Applied
     if bad_lists(src.len(), dst.len()) {
         return Applied::Refused(Refusal::DoesNotFit);
     }
-    divide_into(src, dst);
+    apply_into(true, src, dst);
     Applied::Done
 }
 
@@ -54,6 +52,6 @@ pub fn divide_alpha_inplace(pixels: &mut [u16]) -> Applied
     if bad_lists(pixels.len(), pixels.len()) {
         return Applied::Refused(Refusal::DoesNotFit);
     }
-    divide_within(pixels);
+    apply_within(true, pixels);
     Applied::Done
 }

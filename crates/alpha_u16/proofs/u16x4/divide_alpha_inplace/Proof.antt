@@ -14,8 +14,8 @@ returns : tie.Need-returns
 unfolding dividedList
 returns c = rw (sym (c .before .bad-lists .ensures) ∙ c .if1 .taken) (refl, refl)
 
-divide-within-requires : tie.Need-divide-within-requires
-divide-within-requires c κs =
+apply-within-requires : tie.Need-apply-within-requires
+apply-within-requires c κs =
     let s = c .before .before .before .before in
     let h = lists-fit (length (s .args .pixels .now)) (length (s .args .pixels .now)) (sym (c .before .before .bad-lists .ensures) ∙ c .before .if1 .left) in
     h .1
@@ -25,7 +25,7 @@ same-length c = search needs
 
 returns-2 : tie.Need-returns-2
 unfolding dividedList
-returns-2 c = rw (sym (c .before .before .before .before .before .bad-lists .ensures) ∙ c .before .before .before .before .if1 .left) (refl, c .before .before .divide-within .ensures)
+returns-2 c = rw (sym (c .before .before .before .before .before .bad-lists .ensures) ∙ c .before .before .before .before .if1 .left) (refl, c .before .before .apply-within .ensures)
 
 pub divide-alpha-inplace-spec : {M : Type 1} → statement M
-divide-alpha-inplace-spec = tie.close (tie.spec bad-lists-requires returns divide-within-requires same-length returns-2)
+divide-alpha-inplace-spec = tie.close (tie.spec bad-lists-requires returns apply-within-requires same-length returns-2)

@@ -14,8 +14,8 @@ returns : tie.Need-returns
 unfolding multipliedList
 returns c = rw (sym (c .before .bad-lists .ensures) ∙ c .if1 .taken) (refl, refl)
 
-multiply-into-requires : tie.Need-multiply-into-requires
-multiply-into-requires c κs =
+apply-into-requires : tie.Need-apply-into-requires
+apply-into-requires c κs =
     let s = c .before .before .before .before .before in
     let h = lists-fit (length (s .args .src .now)) (length (s .args .dst .now)) (sym (c .before .before .bad-lists .ensures) ∙ c .before .if1 .left) in
     (h .0, h .1)
@@ -25,7 +25,7 @@ same-length c = search needs
 
 returns-2 : tie.Need-returns-2
 unfolding multipliedList
-returns-2 c = rw (sym (c .before .before .before .before .before .bad-lists .ensures) ∙ c .before .before .before .before .if1 .left) (refl, c .before .before .multiply-into .ensures)
+returns-2 c = rw (sym (c .before .before .before .before .before .bad-lists .ensures) ∙ c .before .before .before .before .if1 .left) (refl, c .before .before .apply-into .ensures)
 
 pub multiply-alpha-spec : {M : Type 1} → statement M
-multiply-alpha-spec = tie.close (tie.spec bad-lists-requires returns multiply-into-requires same-length returns-2)
+multiply-alpha-spec = tie.close (tie.spec bad-lists-requires returns apply-into-requires same-length returns-2)

@@ -1,4 +1,4 @@
--- `multiply::multiply_within` meets its contract: after q turns the first q pixels are written. Assumes nothing.
+-- `apply_within` meets its contract: after q turns the first q pixels are written. Assumes nothing.
 use mathlib.Core.Path.{refl}
 use Prim.Native.Nat.{_*_, _-_, _≤_}
 use native.Mathlib.Omega.{arith}
@@ -6,16 +6,16 @@ use lib.ListN.{length}
 use Rattle.lists.proofs.TabLaws.{Written, written-none}
 use Rattle.pixel_lists.specs.Lists.{componentAt}
 use Rattle.pixel_lists.proofs.PixelLaws.{pixels-all}
-use Rattle.colours_u16.specs.Alpha.{multiplied}
+use Rattle.alpha_u16.specs.Lists.{operation}
 use Rattle.alpha_u16.proofs.PixelLaws.{pixel-within}
-use Rattle.alpha_u16.proofs.multiply.multiply_within.Statement.{statement}
-use Rattle.alpha_u16.proofs.multiply.multiply_within.Tie as tie
+use Rattle.alpha_u16.proofs.loops.apply_within.Statement.{statement}
+use Rattle.alpha_u16.proofs.loops.apply_within.Tie as tie
 
 abbrev Inv-loop : tie.InvT-loop
-Inv-loop pixels₀ n q₀ pixels q = (q ≤ n) × Written (q * 4) (componentAt multiplied pixels₀) pixels₀ pixels
+Inv-loop divide pixels₀ n q₀ pixels q = (q ≤ n) × Written (q * 4) (componentAt (operation divide) pixels₀) pixels₀ pixels
 
 abbrev μ-loop : tie.MeasureT-loop
-μ-loop pixels₀ n q₀ pixels q = n - q
+μ-loop divide pixels₀ n q₀ pixels q = n - q
 
 loop-holds : tie.Need-loop-holds Inv-loop μ-loop
 loop-holds c = (omega arith, written-none)
@@ -56,8 +56,8 @@ mul-alpha c = omega arith
 slice-read-alpha : tie.Need-slice-read-alpha Inv-loop μ-loop
 slice-read-alpha c = omega arith
 
-put-multiplied-requires : tie.Need-put-multiplied-requires Inv-loop μ-loop
-put-multiplied-requires c κs = omega arith
+put-requires : tie.Need-put-requires Inv-loop μ-loop
+put-requires c κs = omega arith
 
 add-q : tie.Need-add-q Inv-loop μ-loop
 add-q c = omega arith
@@ -69,7 +69,7 @@ loop-again : tie.Need-loop-again Inv-loop μ-loop
 loop-again c =
     let l = c .before .before .before .before .before .before .before .before .before in
     let src = l .before .before .args .pixels .now in
-    (omega arith, rw (c .before .before .put-multiplied .ensures) (pixel-within multiplied src (l .loop .q) _ _ _ refl refl refl (l .loop .inv .1) (omega arith)))
+    (omega arith, rw (c .before .before .put .ensures) (pixel-within (operation (l .before .before .args .divide)) src (l .loop .q) _ _ _ refl refl refl (l .loop .inv .1) (omega arith)))
 
 same-length : tie.Need-same-length Inv-loop μ-loop
 same-length c = omega arith
@@ -79,8 +79,8 @@ returns c =
     let s = c .before .before .before in
     pixels-all (c .before .loop .q) (length (s .args .pixels .now)) (c .before .loop .inv .1) (omega arith) (omega arith) refl
 
-pub multiply-within-spec : {M : Type 1} → statement M
-multiply-within-spec =
+pub apply-within-spec : {M : Type 1} → statement M
+apply-within-spec =
     tie.close
     (tie.spec
     Inv-loop
@@ -98,7 +98,7 @@ multiply-within-spec =
     add-alpha
     mul-alpha
     slice-read-alpha
-    put-multiplied-requires
+    put-requires
     add-q
     loop-less
     loop-again
