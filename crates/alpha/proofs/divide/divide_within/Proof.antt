@@ -22,39 +22,6 @@ abbrev μ-loop : tie.MeasureT-loop
 loop-holds : tie.Need-loop-holds Inv-loop μ-loop
 loop-holds c = (omega arith, written-none)
 
-mul-reciprocal-of : tie.Need-mul-reciprocal-of Inv-loop μ-loop
-mul-reciprocal-of c = search needs
-
-add-reciprocal-of : tie.Need-add-reciprocal-of Inv-loop μ-loop
-add-reciprocal-of c = search needs
-
-slice-read-reciprocal-of : tie.Need-slice-read-reciprocal-of Inv-loop μ-loop
-slice-read-reciprocal-of c = search needs
-
-reciprocal-of-requires : tie.Need-reciprocal-of-requires Inv-loop μ-loop
-reciprocal-of-requires c κs = search needs
-
-mul-store4 : tie.Need-mul-store4 Inv-loop μ-loop
-mul-store4 c = search needs
-
-mul-load4 : tie.Need-mul-load4 Inv-loop μ-loop
-mul-load4 c = search needs
-
-load4-requires : tie.Need-load4-requires Inv-loop μ-loop
-load4-requires c κs = omega arith
-
-divided-pixel-requires : tie.Need-divided-pixel-requires Inv-loop μ-loop
-divided-pixel-requires c κs = search needs
-
-store4-requires : tie.Need-store4-requires Inv-loop μ-loop
-store4-requires c κs = omega arith
-
-add-q : tie.Need-add-q Inv-loop μ-loop
-add-q c = search needs
-
-loop-less : tie.Need-loop-less Inv-loop μ-loop
-loop-less c = search needs
-
 loop-again : tie.Need-loop-again Inv-loop μ-loop
 loop-again c =
     let l = c .before .before .before .before .before .before .before .before .before .before in
@@ -71,9 +38,6 @@ loop-again c =
       rw (c .before .before .store4 .ensures) (word-more (a .pixels .now) small q divided divided-byte (word .result) e (l .loop .inv .1) (omega arith)),
     )
 
-same-length : tie.Need-same-length Inv-loop μ-loop
-same-length c = omega arith
-
 returns : tie.Need-returns Inv-loop μ-loop
 returns c =
     let s = c .before .before .before in
@@ -82,21 +46,6 @@ returns c =
 pub divide-within-spec : {M : Type 1} → statement M
 divide-within-spec =
     tie.close
-    (tie.spec
-    Inv-loop
-    μ-loop
-    loop-holds
-    mul-reciprocal-of
-    add-reciprocal-of
-    slice-read-reciprocal-of
-    reciprocal-of-requires
-    mul-store4
-    mul-load4
-    load4-requires
-    divided-pixel-requires
-    store4-requires
-    add-q
-    loop-less
-    loop-again
-    same-length
-    returns)
+    (tie.spec Inv-loop μ-loop loop-holds (λ c. search needs) (λ c. search needs) (λ c. search needs) (λ c κs. search needs) (λ c. search needs)
+    (λ c. search needs) (λ c κs. omega arith) (λ c κs. search needs) (λ c κs. omega arith) (λ c. search needs) (λ c. search needs) loop-again
+    (λ c. omega arith) returns)

@@ -22,27 +22,6 @@ abbrev μ-loop : tie.MeasureT-loop
 loop-holds : tie.Need-loop-holds Inv-loop μ-loop
 loop-holds c = (omega arith, written-none)
 
-mul-store4 : tie.Need-mul-store4 Inv-loop μ-loop
-mul-store4 c = search needs
-
-mul-load4 : tie.Need-mul-load4 Inv-loop μ-loop
-mul-load4 c = search needs
-
-load4-requires : tie.Need-load4-requires Inv-loop μ-loop
-load4-requires c κs = omega arith
-
-multiplied-pixel-requires : tie.Need-multiplied-pixel-requires Inv-loop μ-loop
-multiplied-pixel-requires c κs = search needs
-
-store4-requires : tie.Need-store4-requires Inv-loop μ-loop
-store4-requires c κs = omega arith
-
-add-q : tie.Need-add-q Inv-loop μ-loop
-add-q c = search needs
-
-loop-less : tie.Need-loop-less Inv-loop μ-loop
-loop-less c = search needs
-
 loop-again : tie.Need-loop-again Inv-loop μ-loop
 loop-again c =
     let l = c .before .before .before .before .before .before .before in
@@ -55,9 +34,6 @@ loop-again c =
       rw (c .before .before .store4 .ensures) (word-more (a .src .now) small q multiplied multiplied-byte (word .result) e (l .loop .inv .1) (omega arith)),
     )
 
-same-length : tie.Need-same-length Inv-loop μ-loop
-same-length c = omega arith
-
 returns : tie.Need-returns Inv-loop μ-loop
 returns c =
     let s = c .before .before .before .before in
@@ -66,17 +42,5 @@ returns c =
 pub multiply-into-spec : {M : Type 1} → statement M
 multiply-into-spec =
     tie.close
-    (tie.spec
-    Inv-loop
-    μ-loop
-    loop-holds
-    mul-store4
-    mul-load4
-    load4-requires
-    multiplied-pixel-requires
-    store4-requires
-    add-q
-    loop-less
-    loop-again
-    same-length
-    returns)
+    (tie.spec Inv-loop μ-loop loop-holds (λ c. search needs) (λ c. search needs) (λ c κs. omega arith) (λ c κs. search needs) (λ c κs. omega arith)
+    (λ c. search needs) (λ c. search needs) loop-again (λ c. omega arith) returns)

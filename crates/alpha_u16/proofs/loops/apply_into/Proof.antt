@@ -20,59 +20,11 @@ abbrev μ-loop : tie.MeasureT-loop
 loop-holds : tie.Need-loop-holds Inv-loop μ-loop
 loop-holds c = (omega arith, written-none)
 
-mul-i : tie.Need-mul-i Inv-loop μ-loop
-mul-i c = omega arith
-
-mul-put : tie.Need-mul-put Inv-loop μ-loop
-mul-put c = omega arith
-
-shared-slice-read-put : tie.Need-shared-slice-read-put Inv-loop μ-loop
-shared-slice-read-put c = omega arith
-
-add-put : tie.Need-add-put Inv-loop μ-loop
-add-put c = omega arith
-
-mul-put-2 : tie.Need-mul-put-2 Inv-loop μ-loop
-mul-put-2 c = omega arith
-
-shared-slice-read-put-2 : tie.Need-shared-slice-read-put-2 Inv-loop μ-loop
-shared-slice-read-put-2 c = omega arith
-
-add-put-2 : tie.Need-add-put-2 Inv-loop μ-loop
-add-put-2 c = omega arith
-
-mul-put-3 : tie.Need-mul-put-3 Inv-loop μ-loop
-mul-put-3 c = omega arith
-
-shared-slice-read-put-3 : tie.Need-shared-slice-read-put-3 Inv-loop μ-loop
-shared-slice-read-put-3 c = omega arith
-
-add-put-3 : tie.Need-add-put-3 Inv-loop μ-loop
-add-put-3 c = omega arith
-
-mul-put-4 : tie.Need-mul-put-4 Inv-loop μ-loop
-mul-put-4 c = omega arith
-
-shared-slice-read-put-4 : tie.Need-shared-slice-read-put-4 Inv-loop μ-loop
-shared-slice-read-put-4 c = omega arith
-
-put-requires : tie.Need-put-requires Inv-loop μ-loop
-put-requires c κs = omega arith
-
-add-q : tie.Need-add-q Inv-loop μ-loop
-add-q c = omega arith
-
-loop-less : tie.Need-loop-less Inv-loop μ-loop
-loop-less c = omega arith
-
 loop-again : tie.Need-loop-again Inv-loop μ-loop
 loop-again c =
     let l = c .before .before .before .before .before .before .before .before .before in
     let src = l .before .before .before .args .src .now in
     (omega arith, rw (c .before .before .put .ensures) (pixel-into (operation (l .before .before .before .args .divide)) src (l .loop .q) _ _ _ _ refl refl refl refl (l .loop .inv .1) (omega arith)))
-
-same-length : tie.Need-same-length Inv-loop μ-loop
-same-length c = omega arith
 
 returns : tie.Need-returns Inv-loop μ-loop
 returns c =
@@ -82,25 +34,6 @@ returns c =
 pub apply-into-spec : {M : Type 1} → statement M
 apply-into-spec =
     tie.close
-    (tie.spec
-    Inv-loop
-    μ-loop
-    loop-holds
-    mul-i
-    mul-put
-    shared-slice-read-put
-    add-put
-    mul-put-2
-    shared-slice-read-put-2
-    add-put-2
-    mul-put-3
-    shared-slice-read-put-3
-    add-put-3
-    mul-put-4
-    shared-slice-read-put-4
-    put-requires
-    add-q
-    loop-less
-    loop-again
-    same-length
-    returns)
+    (tie.spec Inv-loop μ-loop loop-holds (λ c. omega arith) (λ c. omega arith) (λ c. omega arith) (λ c. omega arith) (λ c. omega arith)
+    (λ c. omega arith) (λ c. omega arith) (λ c. omega arith) (λ c. omega arith) (λ c. omega arith) (λ c. omega arith) (λ c. omega arith)
+    (λ c κs. omega arith) (λ c. omega arith) (λ c. omega arith) loop-again (λ c. omega arith) returns)
