@@ -16,18 +16,6 @@ use borrow.Author.Needs.{needs}
 use Rattle.coefficients.proofs.build.Statement.{statement}
 use Rattle.coefficients.proofs.build.Tie as tie
 
-prepare-requires : tie.Need-prepare-requires
-prepare-requires c κs = search needs
-
-enum-known-planned : tie.Need-enum-known-planned
-enum-known-planned c = search needs
-
-enum-told : tie.Need-enum-told
-enum-told c = search needs
-
-planned-refusal-requires : tie.Need-planned-refusal-requires
-planned-refusal-requires c κs = search needs
-
 returns : tie.Need-returns
 returns c =
     let st = c .before .before .before .before .before .before .before in
@@ -36,12 +24,6 @@ returns c =
     let e : planOf q ≡ Refused (c .planned-refusal .result) =
     sym (c .before .before .before .prepare .ensures) ∙ told .1 ∙ ap Refused (sym (c .planned-refusal .ensures ∙ ap (λ (x : Planned). plannedRefusal x NoScale) (told .1))) in
     all-refused q (st .args .weights .now) (st .args .starts .now) (st .args .sizes .now) (c .planned-refusal .result) e
-
-cast-n : tie.Need-cast-n
-cast-n c = search needs
-
-cast-w : tie.Need-cast-w
-cast-w c = search needs
 
 mul-if1 : tie.Need-mul-if1
 mul-if1 c =
@@ -90,15 +72,6 @@ all-windows-requires c κs =
     let e : planOf q ≡ Ready p = sym (known .before .before .prepare .ensures) ∙ known .planned .given .1 in
     (plan-sound q p e, record { slots-there = c .before .before .before .before .before .if1 .left; starts-there = c .before .before .before .before .if2 .left; sizes-there = c .before .before .before .if3 .left })
 
-same-length : tie.Need-same-length
-same-length c = search needs
-
-same-length-2 : tie.Need-same-length-2
-same-length-2 c = search needs
-
-same-length-3 : tie.Need-same-length-3
-same-length-3 c = search needs
-
 returns-5 : tie.Need-returns-5
 returns-5 c =
     let known = c .before .before .before .before .before .before .before .before .before .before .before .before .before .before .before .before .before .before .before in
@@ -110,15 +83,6 @@ returns-5 c =
     all-ready q (st .args .weights .now) (st .args .starts .now) (st .args .sizes .now) p e _ (w .last .1 .0) (w .last .1 .1 .0) (w .last .1 .1 .1 .0)
     (enough p (length (st .args .weights .now)) (length (st .args .starts .now)) (length (st .args .sizes .now)) (c .before .before .before .before .before .before .before .before .before .before .before .before .before .before .before .if1 .left) (c .before .before .before .before .before .before .before .before .before .before .before .before .before .before .if2 .left) (c .before .before .before .before .before .before .before .before .before .before .before .before .before .if3 .left))
     (built-blank p (w .result .0) (w .ensures .0) (c .if4 .taken)) (w .ensures .1 .0) (w .ensures .1 .1 .0) (w .ensures .1 .1 .1)
-
-same-length-4 : tie.Need-same-length-4
-same-length-4 c = search needs
-
-same-length-5 : tie.Need-same-length-5
-same-length-5 c = search needs
-
-same-length-6 : tie.Need-same-length-6
-same-length-6 c = search needs
 
 returns-6 : tie.Need-returns-6
 returns-6 c =
@@ -135,24 +99,6 @@ returns-6 c =
 pub build-spec : {M : Type 1} → statement M
 build-spec =
     tie.close
-    (tie.spec
-    prepare-requires
-    enum-known-planned
-    enum-told
-    planned-refusal-requires
-    returns
-    cast-n
-    cast-w
-    mul-if1
-    returns-2
-    returns-3
-    returns-4
-    all-windows-requires
-    same-length
-    same-length-2
-    same-length-3
-    returns-5
-    same-length-4
-    same-length-5
-    same-length-6
-    returns-6)
+    (tie.spec (λ c κs. search needs) (λ c. search needs) (λ c. search needs) (λ c κs. search needs) returns (λ c. search needs) (λ c. search needs)
+    mul-if1 returns-2 returns-3 returns-4 all-windows-requires (λ c. search needs) (λ c. search needs) (λ c. search needs) returns-5
+    (λ c. search needs) (λ c. search needs) (λ c. search needs) returns-6)

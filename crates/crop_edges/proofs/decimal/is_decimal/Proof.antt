@@ -7,12 +7,6 @@ use borrow.Author.Needs.{needs}
 use Rattle.crop_edges.proofs.decimal.is_decimal.Statement.{statement}
 use Rattle.crop_edges.proofs.decimal.is_decimal.Tie as tie
 
-before-of-requires : tie.Need-before-of-requires
-before-of-requires c κs = search needs
-
-places-of-requires : tie.Need-places-of-requires
-places-of-requires c κs = search needs
-
 add-if1 : tie.Need-add-if1
 add-if1 c =
     let text = c .before .before .before .args .text .now in
@@ -33,12 +27,6 @@ returns-2 : tie.Need-returns-2
 unfolding isDecimal
 returns-2 c = rw (← c .before .before .before .before-of .ensures, ← c .before .before .places-of .ensures, le-leb 1 _ (c .before .if1 .left), lt-leb _ 15 (c .if2 .taken))
 
-whole-at-requires : tie.Need-whole-at-requires
-whole-at-requires c κs = search needs
-
-all-digits-requires : tie.Need-all-digits-requires
-all-digits-requires c κs = search needs
-
 returns-3 : tie.Need-returns-3
 unfolding isDecimal
 returns-3 c =
@@ -51,12 +39,6 @@ returns-3 c =
       ← c .before .all-digits .ensures,
       not-true (c .before .all-digits .result) (c .if3 .taken),
     )
-
-fraction-at-requires : tie.Need-fraction-at-requires
-fraction-at-requires c κs = search needs
-
-all-digits-requires-2 : tie.Need-all-digits-requires-2
-all-digits-requires-2 c κs = search needs
 
 returns-4 : tie.Need-returns-4
 unfolding isDecimal
@@ -75,16 +57,5 @@ returns-4 c =
 pub is-decimal-spec : {M : Type 1} → statement M
 is-decimal-spec =
     tie.close
-    (tie.spec
-    before-of-requires
-    places-of-requires
-    add-if1
-    returns
-    add-if2
-    returns-2
-    whole-at-requires
-    all-digits-requires
-    returns-3
-    fraction-at-requires
-    all-digits-requires-2
-    returns-4)
+    (tie.spec (λ c κs. search needs) (λ c κs. search needs) add-if1 returns add-if2 returns-2 (λ c κs. search needs) (λ c κs. search needs) returns-3
+    (λ c κs. search needs) (λ c κs. search needs) returns-4)

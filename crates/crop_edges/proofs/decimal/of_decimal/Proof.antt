@@ -11,25 +11,10 @@ use borrow.Author.Needs.{needs}
 use Rattle.crop_edges.proofs.decimal.of_decimal.Statement.{statement}
 use Rattle.crop_edges.proofs.decimal.of_decimal.Tie as tie
 
-places-of-requires : tie.Need-places-of-requires
-places-of-requires c κs = search needs
-
-whole-of-requires : tie.Need-whole-of-requires
-whole-of-requires c κs = search needs
-
-nearest-u64-to-f64-requires : tie.Need-nearest-u64-to-f64-requires
-nearest-u64-to-f64-requires c κs = search needs
-
 power-requires : tie.Need-power-requires
 power-requires c κs =
     let few = digits-few (c .before .before .before .before .args .text .now) (c .before .before .before .before .pre) in
     rw (c .before .before .places-of .ensures) (omega arith)
-
-nearest-u64-to-f64-requires-2 : tie.Need-nearest-u64-to-f64-requires-2
-nearest-u64-to-f64-requires-2 c κs = search needs
-
-minus-requires : tie.Need-minus-requires
-minus-requires c κs = search needs
 
 returns : tie.Need-returns
 returns c =
@@ -58,12 +43,5 @@ returns-2 c =
 pub of-decimal-spec : {M : Type 1} → statement M
 of-decimal-spec =
     tie.close
-    (tie.spec
-    places-of-requires
-    whole-of-requires
-    nearest-u64-to-f64-requires
-    power-requires
-    nearest-u64-to-f64-requires-2
-    minus-requires
-    returns
-    returns-2)
+    (tie.spec (λ c κs. search needs) (λ c κs. search needs) (λ c κs. search needs) power-requires (λ c κs. search needs) (λ c κs. search needs)
+    returns returns-2)

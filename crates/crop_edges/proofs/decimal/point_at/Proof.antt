@@ -18,29 +18,17 @@ Inv-loop text n k₀ k = (k ≤ length text) × (pointAt text ≡ first (isPoint
 abbrev μ-loop : tie.MeasureT-loop
 μ-loop text n k₀ k = length text - k
 
-whole-at-requires : tie.Need-whole-at-requires Inv-loop μ-loop
-whole-at-requires c κs = search needs
-
 loop-holds : tie.Need-loop-holds Inv-loop μ-loop
 unfolding pointAt
 loop-holds c =
     let text = c .before .before .args .text .now in
     rw (c .whole-at .ensures) (whole-in text, refl)
 
-shared-slice-read-if1 : tie.Need-shared-slice-read-if1 Inv-loop μ-loop
-shared-slice-read-if1 c = search needs
-
 returns : tie.Need-returns Inv-loop μ-loop
 returns c =
     let s = c .before .before .before .loop in
     let text = c .before .before .before .before .before .before .args .text .now in
     sym (s .inv .1 ∙ first-stop (isPoint text) (s .k) (length text - s .k) (search needs) (eq-eqb _ 46 (c .if1 .taken)))
-
-add-k : tie.Need-add-k Inv-loop μ-loop
-add-k c = search needs
-
-loop-less : tie.Need-loop-less Inv-loop μ-loop
-loop-less c = search needs
 
 loop-again : tie.Need-loop-again Inv-loop μ-loop
 loop-again c =
@@ -59,14 +47,5 @@ returns-2 c =
 pub point-at-spec : {M : Type 1} → statement M
 point-at-spec =
     tie.close
-    (tie.spec
-    Inv-loop
-    μ-loop
-    whole-at-requires
-    loop-holds
-    shared-slice-read-if1
-    returns
-    add-k
-    loop-less
-    loop-again
+    (tie.spec Inv-loop μ-loop (λ c κs. search needs) loop-holds (λ c. search needs) returns (λ c. search needs) (λ c. search needs) loop-again
     returns-2)

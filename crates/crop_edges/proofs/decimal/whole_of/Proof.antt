@@ -6,22 +6,10 @@ use borrow.Author.Needs.{needs}
 use Rattle.crop_edges.proofs.decimal.whole_of.Statement.{statement}
 use Rattle.crop_edges.proofs.decimal.whole_of.Tie as tie
 
-whole-at-requires : tie.Need-whole-at-requires
-whole-at-requires c κs = search needs
-
-before-of-requires : tie.Need-before-of-requires
-before-of-requires c κs = search needs
-
 continued-requires : tie.Need-continued-requires
 continued-requires c κs =
     let text = c .before .before .before .args .text .now in
     rw (c .before .whole-at .ensures, c .before-of .ensures) (places-in text .0, lit< tt, upper-room text (c .before .before .before .pre))
-
-fraction-at-requires : tie.Need-fraction-at-requires
-fraction-at-requires c κs = search needs
-
-places-of-requires : tie.Need-places-of-requires
-places-of-requires c κs = search needs
 
 continued-requires-2 : tie.Need-continued-requires-2
 continued-requires-2 c κs =
@@ -43,11 +31,5 @@ returns c =
 pub whole-of-spec : {M : Type 1} → statement M
 whole-of-spec =
     tie.close
-    (tie.spec
-    whole-at-requires
-    before-of-requires
-    continued-requires
-    fraction-at-requires
-    places-of-requires
-    continued-requires-2
+    (tie.spec (λ c κs. search needs) (λ c κs. search needs) continued-requires (λ c κs. search needs) (λ c κs. search needs) continued-requires-2
     returns)

@@ -26,27 +26,12 @@ mul-sum c =
     let r = numeral-room (a .base) (a .text .now) (a .a) (a .v) (search needs) (a .n) (s .k) (search needs) (search needs) in
     record { fits = rw (s .inv .1) (omega arith) }
 
-add-figure : tie.Need-add-figure Inv-loop μ-loop
-add-figure c = search needs
-
-shared-slice-read-figure : tie.Need-shared-slice-read-figure Inv-loop μ-loop
-shared-slice-read-figure c = search needs
-
-figure-requires : tie.Need-figure-requires Inv-loop μ-loop
-figure-requires c κs = search needs
-
 add-sum : tie.Need-add-sum Inv-loop μ-loop
 add-sum c =
     let a = c .before .before .before .before .before .args in
     let s = c .before .before .before .loop in
     let r = numeral-room (a .base) (a .text .now) (a .a) (a .v) (search needs) (a .n) (s .k) (search needs) (search needs) in
     record { fits = rw (s .inv .1, c .figure .ensures) (omega arith) }
-
-add-k : tie.Need-add-k Inv-loop μ-loop
-add-k c = search needs
-
-loop-less : tie.Need-loop-less Inv-loop μ-loop
-loop-less c = search needs
 
 loop-again : tie.Need-loop-again Inv-loop μ-loop
 unfolding numeral
@@ -63,16 +48,5 @@ returns c =
 pub continued-spec : {M : Type 1} → statement M
 continued-spec =
     tie.close
-    (tie.spec
-    Inv-loop
-    μ-loop
-    loop-holds
-    mul-sum
-    add-figure
-    shared-slice-read-figure
-    figure-requires
-    add-sum
-    add-k
-    loop-less
-    loop-again
-    returns)
+    (tie.spec Inv-loop μ-loop loop-holds mul-sum (λ c. search needs) (λ c. search needs) (λ c κs. search needs) add-sum (λ c. search needs)
+    (λ c. search needs) loop-again returns)

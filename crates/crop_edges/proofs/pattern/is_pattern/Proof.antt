@@ -12,20 +12,11 @@ returns : tie.Need-returns
 unfolding isPattern
 returns c = rw (ne-eqb _ 18 (c .if1 .taken))
 
-shared-slice-read-if2 : tie.Need-shared-slice-read-if2
-shared-slice-read-if2 c = search needs
-
-shared-slice-read-if2-2 : tie.Need-shared-slice-read-if2-2
-shared-slice-read-if2-2 c = search needs
-
 returns-2 : tie.Need-returns-2
 unfolding isPattern
 returns-2 c =
     let text = c .before .before .before .before .before .args .text .now in
     rw (eq-eqb _ 18 (c .before .before .before .if1 .left), not-both (eqb (getD text 0 0) 48) (eqb (getD text 1 0) 120) (c .if2 .taken))
-
-all-digits-requires : tie.Need-all-digits-requires
-all-digits-requires c κs = search needs
 
 returns-3 : tie.Need-returns-3
 unfolding isPattern
@@ -36,10 +27,4 @@ returns-3 c =
 pub is-pattern-spec : {M : Type 1} → statement M
 is-pattern-spec =
     tie.close
-    (tie.spec
-    returns
-    shared-slice-read-if2
-    shared-slice-read-if2-2
-    returns-2
-    all-digits-requires
-    returns-3)
+    (tie.spec returns (λ c. search needs) (λ c. search needs) returns-2 (λ c κs. search needs) returns-3)

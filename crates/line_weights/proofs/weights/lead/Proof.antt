@@ -22,9 +22,6 @@ loop-holds : tie.Need-loop-holds Inv-loop μ-loop
 unfolding leadOf
 loop-holds c = refl
 
-line-weight-requires : tie.Need-line-weight-requires Inv-loop μ-loop
-line-weight-requires c κs = search needs
-
 returns : tie.Need-returns Inv-loop μ-loop
 returns c =
     let at = c .before .before .before .before in
@@ -33,12 +30,6 @@ returns c =
       sym (at .loop .inv ∙ first-stop (weighs (args .f) (args .c) (args .recip)) (at .loop .x) (args .stop .0 - at .loop .x) (omega arith) here),
       c .before .line-weight .ensures ∙ rw (first-weight (args .f) (args .c) (args .recip) (at .loop .x) (args .stop .0 - at .loop .x) (omega arith), add-zero),
     )
-
-add-x : tie.Need-add-x Inv-loop μ-loop
-add-x c = search needs
-
-loop-less : tie.Need-loop-less Inv-loop μ-loop
-loop-less c = search needs
 
 loop-again : tie.Need-loop-again Inv-loop μ-loop
 loop-again c =
@@ -58,13 +49,4 @@ returns-2 c =
 pub lead-spec : {M : Type 1} → statement M
 lead-spec =
     tie.close
-    (tie.spec
-    Inv-loop
-    μ-loop
-    loop-holds
-    line-weight-requires
-    returns
-    add-x
-    loop-less
-    loop-again
-    returns-2)
+    (tie.spec Inv-loop μ-loop loop-holds (λ c κs. search needs) returns (λ c. search needs) (λ c. search needs) loop-again returns-2)

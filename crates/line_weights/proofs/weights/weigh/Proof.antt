@@ -37,9 +37,6 @@ returns : tie.Need-returns Inv-loop μ-loop
 unfolding totalOf
 returns c = let none : c .before .before .args .n ≡ 0 = omega arith in rw none (refl, front-none _ _)
 
-slice-write-row : tie.Need-slice-write-row Inv-loop μ-loop
-slice-write-row c = search needs
-
 known : (c : tie.After-struct-known Inv-loop μ-loop) → c .before .before .before .args .a .weight ≡ weightFrom (c .before .before .before .args .f) (c .before .before .before .args .c) (c .before .before .before .args .recip) (c .before .before .before .args .a .line .0) 0
 known c =
     let s = c .before .before .before in
@@ -50,26 +47,11 @@ loop-holds c =
     let args = c .before .before .before .args in
     (omega arith, refl, ap (λ (w : Float). zero64 plus w) (known c), written-one _ (args .row .now) (args .a .weight) (omega arith) (known c))
 
-add-x : tie.Need-add-x Inv-loop μ-loop
-add-x c = search needs
-
-line-weight-requires : tie.Need-line-weight-requires Inv-loop μ-loop
-line-weight-requires c κs = search needs
-
-mul-row : tie.Need-mul-row Inv-loop μ-loop
-mul-row c = search needs
-
 slice-write-row-2 : tie.Need-slice-write-row-2 Inv-loop μ-loop
 slice-write-row-2 c =
     let args = c .before .before .before .before .before .before .args in
     let long = c .before .before .loop .inv .3 .long ∙ length-set (args .row .now) 0 (args .a .weight) in
     omega (arith, long)
-
-add-k : tie.Need-add-k Inv-loop μ-loop
-add-k c = search needs
-
-loop-less : tie.Need-loop-less Inv-loop μ-loop
-loop-less c = search needs
 
 loop-again : tie.Need-loop-again Inv-loop μ-loop
 loop-again c =
@@ -103,18 +85,5 @@ returns-2 c =
 pub weigh-spec : {M : Type 1} → statement M
 weigh-spec =
     tie.close
-    (tie.spec
-    Inv-loop
-    μ-loop
-    returns
-    slice-write-row
-    loop-holds
-    add-x
-    line-weight-requires
-    mul-row
-    slice-write-row-2
-    add-k
-    loop-less
-    loop-again
-    same-length
-    returns-2)
+    (tie.spec Inv-loop μ-loop returns (λ c. search needs) loop-holds (λ c. search needs) (λ c κs. search needs) (λ c. search needs) slice-write-row-2
+    (λ c. search needs) (λ c. search needs) loop-again same-length returns-2)

@@ -41,12 +41,6 @@ row-done c =
     let back : at .loop .a + p .window - at .loop .a ≡ p .window = omega arith in
     written-row (at .loop .k) (p .window) (at .loop .a) (at .loop .a + p .window - at .loop .a) (slot p) (at .loop .inv .2) (at .loop .inv .1) back (ends (c .before .before)) (c .one-window .ensures .1)
 
-cast-n : tie.Need-cast-n Inv-loop μ-loop
-cast-n c = search needs
-
-cast-w : tie.Need-cast-w Inv-loop μ-loop
-cast-w c = search needs
-
 mul-slots : tie.Need-mul-slots Inv-loop μ-loop
 mul-slots c =
     let st = c .before .before .before .before .before in
@@ -60,17 +54,8 @@ loop-holds c = (omega arith, rw zero-mul, written-none, written-none, written-no
 add-e : tie.Need-add-e Inv-loop μ-loop
 add-e c = omega (arith, ends c)
 
-cast-t13 : tie.Need-cast-t13 Inv-loop μ-loop
-cast-t13 c = search needs
-
 mul-one-window : tie.Need-mul-one-window Inv-loop μ-loop
 mul-one-window c = omega (arith, ends c, c .before .before .before .before .before .before .before .good .1 .0 .1)
-
-sub-one-window : tie.Need-sub-one-window Inv-loop μ-loop
-sub-one-window c = search needs
-
-part-one-window-start : tie.Need-part-one-window-start Inv-loop μ-loop
-part-one-window-start c = search needs
 
 part-one-window-end : tie.Need-part-one-window-end Inv-loop μ-loop
 part-one-window-end c = omega (arith, ends c)
@@ -93,24 +78,6 @@ one-window-requires c κs =
 
 zero-weights-requires : tie.Need-zero-weights-requires Inv-loop μ-loop
 zero-weights-requires c κs = le-trans (c .before .before .before .before .before .before .before .before .before .before .before .before .before .before .pre .1 .slots-there) (le-of-eq (sym (row-done (c .before .before .before .before .before) .long)))
-
-zero-lines-requires : tie.Need-zero-lines-requires Inv-loop μ-loop
-zero-lines-requires c κs = search needs
-
-zero-lines-requires-2 : tie.Need-zero-lines-requires-2 Inv-loop μ-loop
-zero-lines-requires-2 c κs = search needs
-
-cast-t27 : tie.Need-cast-t27 Inv-loop μ-loop
-cast-t27 c = search needs
-
-same-length : tie.Need-same-length Inv-loop μ-loop
-same-length c = search needs
-
-same-length-2 : tie.Need-same-length-2 Inv-loop μ-loop
-same-length-2 c = search needs
-
-same-length-3 : tie.Need-same-length-3 Inv-loop μ-loop
-same-length-3 c = search needs
 
 returns : tie.Need-returns Inv-loop μ-loop
 returns c =
@@ -139,24 +106,6 @@ returns c =
       ),
     )
 
-mul-starts : tie.Need-mul-starts Inv-loop μ-loop
-mul-starts c = search needs
-
-slice-write-starts : tie.Need-slice-write-starts Inv-loop μ-loop
-slice-write-starts c = search needs
-
-mul-sizes : tie.Need-mul-sizes Inv-loop μ-loop
-mul-sizes c = search needs
-
-slice-write-sizes : tie.Need-slice-write-sizes Inv-loop μ-loop
-slice-write-sizes c = search needs
-
-add-k : tie.Need-add-k Inv-loop μ-loop
-add-k c = search needs
-
-loop-less : tie.Need-loop-less Inv-loop μ-loop
-loop-less c = search needs
-
 loop-again : tie.Need-loop-again Inv-loop μ-loop
 loop-again c =
     let at = c .before .before .before .before .before .before .before in
@@ -173,18 +122,6 @@ loop-again c =
       written-more (at .loop .inv .4) (lt-of-lt-of-le inside (c .before .before .before .before .before .before .before .before .before .before .before .before .before .pre .1 .sizes-there)) (ap (λ (s : Span). s .window .size) (one .one-window .ensures .0)),
       at .loop .inv .5 ∙ first-on (blank p) k (p .output - k) (omega arith) sound ∙ rw left,
     )
-
-cast-t30 : tie.Need-cast-t30 Inv-loop μ-loop
-cast-t30 c = search needs
-
-same-length-4 : tie.Need-same-length-4 Inv-loop μ-loop
-same-length-4 c = search needs
-
-same-length-5 : tie.Need-same-length-5 Inv-loop μ-loop
-same-length-5 c = search needs
-
-same-length-6 : tie.Need-same-length-6 Inv-loop μ-loop
-same-length-6 c = search needs
 
 returns-2 : tie.Need-returns-2 Inv-loop μ-loop
 returns-2 c =
@@ -209,37 +146,8 @@ returns-2 c =
 pub all-windows-spec : {M : Type 1} → statement M
 all-windows-spec =
     tie.close
-    (tie.spec
-    Inv-loop
-    μ-loop
-    cast-n
-    cast-w
-    mul-slots
-    loop-holds
-    add-e
-    cast-t13
-    mul-one-window
-    sub-one-window
-    part-one-window-start
-    part-one-window-end
-    one-window-requires
-    zero-weights-requires
-    zero-lines-requires
-    zero-lines-requires-2
-    cast-t27
-    same-length
-    same-length-2
-    same-length-3
-    returns
-    mul-starts
-    slice-write-starts
-    mul-sizes
-    slice-write-sizes
-    add-k
-    loop-less
-    loop-again
-    cast-t30
-    same-length-4
-    same-length-5
-    same-length-6
-    returns-2)
+    (tie.spec Inv-loop μ-loop (λ c. search needs) (λ c. search needs) mul-slots loop-holds add-e (λ c. search needs) mul-one-window
+    (λ c. search needs) (λ c. search needs) part-one-window-end one-window-requires zero-weights-requires (λ c κs. search needs)
+    (λ c κs. search needs) (λ c. search needs) (λ c. search needs) (λ c. search needs) (λ c. search needs) returns (λ c. search needs)
+    (λ c. search needs) (λ c. search needs) (λ c. search needs) (λ c. search needs) (λ c. search needs) loop-again (λ c. search needs)
+    (λ c. search needs) (λ c. search needs) (λ c. search needs) returns-2)

@@ -37,9 +37,6 @@ room c =
 small : (a e n : ℕ) → n ≡ e - a → a < 2 ^ 32 → e < 2 ^ 32 → a + n < 2 ^ 32
 small a e n h l m = omega arith
 
-int-to-float-centre : tie.Need-int-to-float-centre
-int-to-float-centre c = search needs
-
 range-start-requires : tie.Need-range-start-requires
 unfolding centre
 range-start-requires c κs = (c .before .before .before .before .pre .centred, c .before .before .before .before .pre .reach)
@@ -47,12 +44,6 @@ range-start-requires c κs = (c .before .before .before .before .pre .centred, c
 range-end-requires : tie.Need-range-end-requires
 unfolding centre
 range-end-requires c κs = (c .before .before .before .before .before .pre .centred, c .before .before .before .before .before .pre .reach)
-
-lead-requires : tie.Need-lead-requires
-lead-requires c κs = search needs
-
-lines-left-requires : tie.Need-lines-left-requires
-lines-left-requires c κs = search needs
 
 weigh-requires : tie.Need-weigh-requires
 unfolding centre
@@ -83,12 +74,6 @@ cast-size c =
     let few : c .trim .result ≤ n = le-trans (le-of-eq (c .trim .ensures)) (up-le (weighty (at .weigh .last .1 .1 .1 .1 .1 .0)) n) in
     omega (arith, few, room (at .before .before), s .pre .room, s .pre .narrow)
 
-finish-requires : tie.Need-finish-requires
-finish-requires c κs = search needs
-
-same-length : tie.Need-same-length
-same-length c = search needs
-
 returns : tie.Need-returns
 unfolding centre
 returns c =
@@ -112,15 +97,5 @@ returns c =
 pub one-window-spec : {M : Type 1} → statement M
 one-window-spec =
     tie.close
-    (tie.spec
-    int-to-float-centre
-    range-start-requires
-    range-end-requires
-    lead-requires
-    lines-left-requires
-    weigh-requires
-    trim-requires
-    cast-size
-    finish-requires
-    same-length
-    returns)
+    (tie.spec (λ c. search needs) range-start-requires range-end-requires (λ c κs. search needs) (λ c κs. search needs) weigh-requires trim-requires
+    cast-size (λ c κs. search needs) (λ c. search needs) returns)
