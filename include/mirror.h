@@ -5,7 +5,7 @@
  * What one call may write overlaps nothing else that is handed to it. The functions are those of the crates mirror_*, each proved against
  * a contract that decides every answer; docs/CONTRACTS.md has it in a sentence.
  *
- * Numbers beside the answer (weight, left, top, width, height, window, line, precision, written, filter, lines, windows, store, byte) are
+ * Numbers beside the answer (weight, left, top, width, height, window, line, precision, infinite, written, filter, lines, windows, store, byte) are
  * always written, and are 0 on every refusal, but for the line of No. 8 and the byte of No. 13.
  *
  * The contracts know one NaN. So of a NaN in a list of doubles or floats, "unchanged" promises that it stays a NaN, not that it keeps its
@@ -54,7 +54,8 @@ uint64_t mirror_floor(uint64_t x);
 uint64_t mirror_ceil(uint64_t x);
 uint64_t mirror_round(uint64_t x);   /* half away from zero */
 uint64_t mirror_widen(uint32_t x);   /* binary32 to binary64 */
-uint32_t mirror_narrow(uint64_t x);  /* binary64 to binary32, ties to even, infinity where too large */
+/* binary64 to binary32, ties to even, infinity where too large; *infinite is 1 where the result is an infinity, else 0 */
+uint32_t mirror_narrow(uint64_t x, uint32_t *infinite);
 
 /* One filter's weight at the distance x; 0 where x is infinite or a NaN. 0, 100. */
 uint32_t mirror_filter(uint32_t filter, double x, double *weight);
@@ -92,7 +93,7 @@ uint8_t mirror_clip8(int32_t value);
 /* The vertical passes over columns first .. first + count - 1 of rows of `row` samples; out has count samples for each window. 0, 1, 10,
  * for u8 9, and for f32 12. No. 10: as for a normaliser; a source length that is not lines x row; first + count past the row; an output
  * length that is not windows x count; a precision outside 4 to 45, for u8 4 to 21. No. 9, after 10: 255 times the sizes of a window's
- * weights in use, and 2^(precision - 1), pass 2^31 - 1. */
+ * weights in use, and 2^(precision - 1), pass 2^31 - 1. *infinite is how many of the samples that the call wrote are infinite. */
 uint32_t mirror_vertical_u16(const uint16_t *src, size_t src_len, uint32_t lines, uint32_t row, uint32_t first, uint32_t count,
                              const int32_t *weights, size_t weights_len, const uint32_t *starts, size_t starts_len,
                              const uint32_t *sizes, size_t sizes_len, uint32_t window, uint32_t precision,
@@ -104,7 +105,7 @@ uint32_t mirror_vertical_u8(const uint8_t *src, size_t src_len, uint32_t lines, 
 uint32_t mirror_vertical_f32(const float *src, size_t src_len, uint32_t lines, uint32_t row, uint32_t first, uint32_t count,
                              const double *weights, size_t weights_len, const uint32_t *starts, size_t starts_len,
                              const uint32_t *sizes, size_t sizes_len, uint32_t window,
-                             float *out, size_t out_len);
+                             float *out, size_t out_len, uint32_t *infinite);
 
 /* Colours times or over alpha, pixels of four bytes, alpha last and kept. 0, 10: lengths not equal, or no multiple of 4. */
 uint32_t mirror_multiply_u8x4(const uint8_t *src, size_t src_len, uint8_t *dst, size_t dst_len);

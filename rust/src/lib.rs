@@ -16,7 +16,7 @@ mod sheets;
 pub use alpha::{divide_alpha, divide_alpha_inplace, multiply_alpha, multiply_alpha_inplace};
 pub use alpha::{divide_alpha16, divide_alpha16_inplace, multiply_alpha16, multiply_alpha16_inplace};
 pub use crops::{crop, fit, Centring, CropBox};
-pub use numbers::{abs, ceil, clip8, filter, floor, narrow, round, widen, Filter};
+pub use numbers::{abs, ceil, clip8, filter, floor, narrow, round, widen, Filter, Narrowed};
 pub use passes::{vertical_f32, vertical_u16, vertical_u8, Frame};
 pub use readers::{read_sheet, read_sheet16, Head};
 pub use refusal::Refusal;

@@ -25,9 +25,18 @@ pub fn widen(x: f32) -> f64 {
     f64::from_bits(unsafe { raw::mirror_widen(x.to_bits()) })
 }
 
+/// A narrowed value, and whether it is an infinity.
+#[derive(Clone, Copy, Debug, PartialEq)]
+pub struct Narrowed {
+    pub value: f32,
+    pub infinite: bool,
+}
+
 /// The nearest f32, ties to even, infinity where too large.
-pub fn narrow(x: f64) -> f32 {
-    f32::from_bits(unsafe { raw::mirror_narrow(x.to_bits()) })
+pub fn narrow(x: f64) -> Narrowed {
+    let mut infinite = 0;
+    let value = f32::from_bits(unsafe { raw::mirror_narrow(x.to_bits(), &mut infinite) });
+    Narrowed { value, infinite: infinite != 0 }
 }
 
 /// A shifted sum clipped to 0..255.

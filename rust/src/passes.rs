@@ -35,14 +35,15 @@ pub fn vertical_u8(frame: &Frame<u8>, set: &Set<i16>, precision: u32, out: &mut 
     judged(number, 0)
 }
 
-/// The same of f32 samples, with weights as doubles.
-pub fn vertical_f32(frame: &Frame<f32>, set: &Set<f64>, out: &mut [f32]) -> Result<(), Refusal> {
+/// The same of f32 samples, with weights as doubles; how many of the written samples are infinite.
+pub fn vertical_f32(frame: &Frame<f32>, set: &Set<f64>, out: &mut [f32]) -> Result<u32, Refusal> {
+    let mut infinite = 0;
     let number = unsafe {
         raw::mirror_vertical_f32(
             frame.samples.as_ptr(), frame.samples.len(), set.lines, frame.row, frame.first, frame.count,
             set.weights.as_ptr(), set.weights.len(), set.starts(), set.starts.len(),
-            set.sizes.as_ptr(), set.sizes.len(), set.window, out.as_mut_ptr(), out.len(),
+            set.sizes.as_ptr(), set.sizes.len(), set.window, out.as_mut_ptr(), out.len(), &mut infinite,
         )
     };
-    judged(number, 0)
+    judged(number, 0).map(|()| infinite)
 }

@@ -7,7 +7,7 @@ extern "C" {
     pub fn mirror_ceil(x: u64) -> u64;
     pub fn mirror_round(x: u64) -> u64;
     pub fn mirror_widen(x: u32) -> u64;
-    pub fn mirror_narrow(x: u64) -> u32;
+    pub fn mirror_narrow(x: u64, infinite: *mut u32) -> u32;
 
     pub fn mirror_filter(filter: u32, x: f64, weight: *mut f64) -> u32;
 
@@ -50,7 +50,7 @@ extern "C" {
     pub fn mirror_vertical_f32(
         src: *const f32, src_len: usize, lines: u32, row: u32, first: u32, count: u32,
         weights: *const f64, weights_len: usize, starts: *const u32, starts_len: usize,
-        sizes: *const u32, sizes_len: usize, window: u32, out: *mut f32, out_len: usize,
+        sizes: *const u32, sizes_len: usize, window: u32, out: *mut f32, out_len: usize, infinite: *mut u32,
     ) -> u32;
 
     pub fn mirror_multiply_u8x4(src: *const u8, src_len: usize, dst: *mut u8, dst_len: usize) -> u32;

@@ -12,8 +12,9 @@ fn set<'a, W>(lines: u32, weights: &'a [W], sizes: &'a [u32]) -> Set<'a, W> {
 #[test]
 fn helpers_round_as_rows_13_and_14() {
     assert_eq!([round(2.5), round(-2.5), round(-0.5)], [3.0, -3.0, -1.0]);
-    assert_eq!(narrow(1.0 + 2f64.powi(-24)), 1.0);
-    assert_eq!(narrow(1.0 + 3.0 * 2f64.powi(-24)), 1.0 + 2f32.powi(-22));
+    assert_eq!(narrow(1.0 + 2f64.powi(-24)), Narrowed { value: 1.0, infinite: false });
+    assert_eq!(narrow(1.0 + 3.0 * 2f64.powi(-24)), Narrowed { value: 1.0 + 2f32.powi(-22), infinite: false });
+    assert_eq!(narrow(-1e39), Narrowed { value: f32::NEG_INFINITY, infinite: true });
     assert_eq!((floor(-0.5), ceil(0.5), abs(-2.0), widen(0.5)), (-1.0, 1.0, 2.0, 0.5));
     assert_eq!(floor(f64::NAN).to_bits(), 0x7ff8_0000_0000_0000);
     assert_eq!((clip8(-1), clip8(77), clip8(i32::MAX)), (0, 77, 255));
@@ -110,10 +111,12 @@ fn passes_give_rows_10_to_12() {
 
     let frame = |samples| Frame { samples, row: 2, first: 1, count: 1 };
     let mut out = [7.0];
-    assert_eq!(vertical_f32(&frame(&[f32::NAN, 2.0, f32::NAN, 4.0]), &set(2, &[0.5, 0.5], &[2]), &mut out), Ok(()));
+    assert_eq!(vertical_f32(&frame(&[f32::NAN, 2.0, f32::NAN, 4.0]), &set(2, &[0.5, 0.5], &[2]), &mut out), Ok(0));
     assert_eq!(out, [3.0]);
+    assert_eq!(vertical_f32(&frame(&[0.0, f32::MAX, 0.0, f32::MAX]), &set(2, &[0.5, 1.0], &[2]), &mut out), Ok(1));
+    assert_eq!(out, [f32::INFINITY]);
     assert_eq!(vertical_f32(&frame(&[0.0, 2.0, 0.0, f32::NAN]), &set(2, &[0.5, 0.5], &[2]), &mut out), Err(Refusal::SampleOutside));
-    assert_eq!(out, [3.0]);
+    assert_eq!(out, [f32::INFINITY]);
 }
 
 #[test]

@@ -90,15 +90,20 @@ static void check_u8(void)
 static void check_f32(void)
 {
     static const double halves[] = {0.5, 0.5}, heavy[] = {0x1p65, 0}, largest[] = {0x1p64, 0}, broken[] = {0.5, NAN};
-    static const float frame[] = {1, 2, 3, 4}, spoilt[] = {1, INFINITY, 3, 4};
+    static const float frame[] = {1, 2, 3, 4}, spoilt[] = {1, INFINITY, 3, 4}, bright[] = {0x1p64f, -0x1p127f, 3, 4};
     LENT(float, out, 2);
+    uint32_t infinite = 7;
 #define F32(src, src_len, lines, row, first, count, weights, sizes, room) \
-    mirror_vertical_f32(src, src_len, lines, row, first, count, weights, 2, nought, 1, sizes, 1, 2, out.at, room)
-    CHECK(F32(frame, 4, 2, 2, 0, 2, halves, twos, 2) == MIRROR_DONE && out.at[0] == 2 && out.at[1] == 3 && KEPT_FROM(out, 2));
+    mirror_vertical_f32(src, src_len, lines, row, first, count, weights, 2, nought, 1, sizes, 1, 2, out.at, room, &infinite)
+    CHECK(F32(frame, 4, 2, 2, 0, 2, halves, twos, 2) == MIRROR_DONE && out.at[0] == 2 && out.at[1] == 3 && infinite == 0 && KEPT_FROM(out, 2));
     /* what is not in use is not looked at: column 1, and the second slot */
     CHECK(F32(spoilt, 4, 2, 2, 0, 1, halves, twos, 1) == MIRROR_DONE && out.at[0] == 2 && KEPT_FROM(out, 2) == 1);
     CHECK(F32(frame, 4, 2, 2, 0, 2, broken, ones, 2) == MIRROR_DONE && out.at[0] == 0.5f && out.at[1] == 1);
     CHECK(F32(frame, 4, 2, 2, 0, 2, largest, twos, 2) == MIRROR_DONE && out.at[0] == 0x1p64f);
+    /* how many of the written samples are infinite: of the range alone, of either sign; a refusal writes none */
+    CHECK(F32(bright, 4, 2, 2, 0, 2, largest, twos, 2) == MIRROR_DONE && out.at[0] == INFINITY && out.at[1] == -INFINITY && infinite == 2);
+    CHECK(F32(bright, 4, 2, 2, 1, 1, largest, twos, 1) == MIRROR_DONE && out.at[0] == -INFINITY && infinite == 1);
+    CHECK(F32(bright, 4, 2, 2, 0, 2, heavy, twos, 2) == MIRROR_SAMPLE_OUTSIDE && infinite == 0);
     memset(&out, FILL, sizeof out);
     CHECK(F32(frame, 4, 8193, 2, 0, 2, halves, twos, 2) == MIRROR_BAD_SIDE && UNCHANGED(out));
     CHECK(F32(frame, 4, 2, 0, 0, 0, halves, twos, 0) == MIRROR_BAD_SIDE && UNCHANGED(out));
@@ -109,7 +114,7 @@ static void check_f32(void)
     /* a refused output keeps the bits of the NaNs in it; so does what lies past an output */
     float many[9];
     FILL_NANS(many, 9);
-#define NANS32(lines, weights, room) mirror_vertical_f32(frame, 4, lines, 2, 0, 2, weights, 2, nought, 1, twos, 1, 2, many, room)
+#define NANS32(lines, weights, room) mirror_vertical_f32(frame, 4, lines, 2, 0, 2, weights, 2, nought, 1, twos, 1, 2, many, room, &infinite)
     CHECK(NANS32(0, halves, 9) == MIRROR_BAD_SIDE && NANS32(2, halves, 9) == MIRROR_DOES_NOT_FIT && STILL_NANS(many, 9));
     CHECK(NANS32(2, broken, 2) == MIRROR_SAMPLE_OUTSIDE && STILL_NANS(many, 9));
     CHECK(NANS32(2, halves, 2) == MIRROR_DONE && many[0] == 2 && many[1] == 3);

@@ -10,19 +10,28 @@ static uint64_t rounded(double x)
     return mirror_round(to_bits(x));
 }
 
+/* the narrowed pattern, and 2^32 more where it is said to be infinite */
+static uint64_t narrowed(uint64_t x)
+{
+    uint32_t infinite = 7, value = mirror_narrow(x, &infinite);
+    return (uint64_t)infinite << 32 | value;
+}
+
 static void check_helpers(void)
 {
     /* row 13: 3, -3, -1 */
     CHECK(rounded(2.5) == to_bits(3) && rounded(-2.5) == to_bits(-3) && rounded(-0.5) == to_bits(-1));
     /* row 14: ties to even */
-    CHECK(mirror_narrow(0x3ff0000010000000u) == 0x3f800000 && mirror_narrow(0x3ff0000030000000u) == 0x3f800002);
+    CHECK(narrowed(0x3ff0000010000000u) == 0x3f800000 && narrowed(0x3ff0000030000000u) == 0x3f800002);
     CHECK(mirror_floor(to_bits(-0.5)) == to_bits(-1) && mirror_ceil(to_bits(-0.5)) == to_bits(-0.0));
     CHECK(mirror_abs(0xfff0000000000001u) == 0x7ff0000000000001u);
     CHECK(mirror_widen(0x3f800000) == to_bits(1) && mirror_widen(1) == 0x36a0000000000000u);
     /* infinities stay, every NaN is the quiet one, a zero keeps its sign */
-    CHECK(mirror_floor(to_bits(INFINITY)) == to_bits(INFINITY) && mirror_narrow(to_bits(1e300)) == 0x7f800000);
+    CHECK(mirror_floor(to_bits(INFINITY)) == to_bits(INFINITY) && narrowed(to_bits(1e300)) == 0x17f800000u);
+    /* what is infinite: too large from halfway past the largest f32 on, and an infinity handed in */
+    CHECK(narrowed(0x47efffffefffffffu) == 0x7f7fffff && narrowed(0x47effffff0000000u) == 0x17f800000u && narrowed(to_bits(-INFINITY)) == 0x1ff800000u);
     CHECK(mirror_floor(0xfff8000000000001u) == QUIET && mirror_ceil(0x7ff0000000000001u) == QUIET && mirror_round(QUIET + 5) == QUIET);
-    CHECK(mirror_widen(0xffc00001) == QUIET && mirror_narrow(0xfff8000000000001u) == 0x7fc00000);
+    CHECK(mirror_widen(0xffc00001) == QUIET && narrowed(0xfff8000000000001u) == 0x7fc00000);
     CHECK(mirror_round(to_bits(-0.0)) == to_bits(-0.0) && mirror_round(to_bits(0.0)) == 0);
 }
 

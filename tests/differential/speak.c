@@ -228,13 +228,14 @@ static uint64_t bits(double x)
 static int helper(char **w)
 {
     uint64_t x;
+    uint32_t infinite;
     if (strcmp(w[0], "widen") == 0) {
         OR_BAD(hex(w[1], 8, &x));
         return printf("%016" PRIx64, mirror_widen((uint32_t)x));
     }
     OR_BAD(hex(w[1], 16, &x));
     if (strcmp(w[0], "narrow") == 0)
-        return printf("%08" PRIx32, mirror_narrow(x));
+        return printf("%08" PRIx32, mirror_narrow(x, &infinite)) + printf(" %" PRIu32, infinite);
     return printf("%016" PRIx64, w[0][0] == 'a' ? mirror_abs(x) : w[0][0] == 'f' ? mirror_floor(x) : w[0][0] == 'c' ? mirror_ceil(x) : mirror_round(x));
 }
 
@@ -311,7 +312,7 @@ static int normalize(char **w)
 
 static int pass(char **w, int floats)
 {
-    uint32_t n[6], no;
+    uint32_t n[6], no, infinite;
     for (int i = 0; i < 6 - floats; i++)
         OR_BAD(u32_of(w[i + 1], &n[i]));
     w += 7 - floats;
@@ -320,11 +321,13 @@ static int pass(char **w, int floats)
     OR_BAD(out);
     if (floats)
         no = mirror_vertical_f32(at(src), src->count, n[0], n[1], n[2], n[3], at(ws), ws->count, at(starts), starts->count, at(sizes), sizes->count,
-                                 n[4], at(out), out->count);
+                                 n[4], at(out), out->count, &infinite);
     else
         no = mirror_vertical_u16(at(src), src->count, n[0], n[1], n[2], n[3], at(ws), ws->count, at(starts), starts->count, at(sizes), sizes->count,
                                  n[4], n[5], at(out), out->count);
     printf("%" PRIu32, no);
+    if (floats)
+        printf(" %" PRIu32, infinite);
     show(floats ? 'f' : 'w', out);
     return 1;
 }

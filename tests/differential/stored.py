@@ -25,8 +25,9 @@ def testfloat(path):
     for line in open(path):
         word = line.split()
         if word and word[0] == "n":
-            for name, answer in zip(("floor", "ceil", "round", "narrow"), word[2:]):
+            for name, answer in zip(("floor", "ceil", "round"), word[2:]):
                 yield "%s %s" % (name, word[1]), answer
+            yield "narrow %s" % word[1], "%s %d" % (word[5], int(word[5], 16) % 2**31 == 0x7F800000)
         elif word and word[0] == "w":
             yield "widen %s" % word[1], word[2]
 
@@ -343,8 +344,28 @@ def passes(r):
         yield u16pass(r)
         yield f32pass(r)
     yield from bytes_passes(random.Random(SEED + 8))
+    yield from bright_passes()
     yield from ("u16pass 1 1 0 1 1 4 16 0 1 65536 1", "u16pass 1 1 0 1 1 4 2147483648 0 1 1 1", "u16pass 1 1 0 1 1 4 16 0 1 1", "f32pass 1 1 0 1 1 3ff0000000000000 0 1 3ff0000000000000 1",
                 "f32pass 1 1 0 1 1 3ff0000000000000 0 1 3f800000 1 1", "u16pass 1 1 0 1 1 4 16 0 1 -1 1", "")
+
+
+def bright_passes():
+    """Samples that come out infinite: in the range and beside it, in the second window, past sixteen columns, of either sign; at the largest f32 and halfway past it."""
+    largest, heavy, one, plus = 0x7F7FFFFF, hex64(2.0**64), hex64(1.0), 0x3F800000
+    def bright(lines, row, first, count, weights, starts, sizes, samples):
+        return "f32pass %d %d %d %d %d %s %s %s %s %d" % (lines, row, first, count, len(weights) // len(starts), ",".join(weights), joined(starts), joined(sizes), ",".join("%08x" % v for v in samples), len(starts) * count)
+    for first, count in ((0, 2), (0, 1), (1, 1), (0, 0)):
+        yield bright(1, 2, first, count, [heavy], [0], [1], [plus, largest])
+    yield bright(2, 1, 0, 1, [one, heavy], [0, 1], [1, 1], [plus, largest])
+    yield bright(2, 1, 0, 1, [heavy, one], [1, 0], [1, 1], [plus, largest])
+    for n in (15, 16, 17, 33):
+        for at in (0, n // 2, n - 1):
+            yield bright(1, n, 0, n, [heavy], [0], [1], [(largest if k == at else plus) + (k % 2 << 31) for k in range(n)])
+    yield bright(3, 20, 2, 17, [heavy] * 3, [2, 0, 1], [1, 1, 1], [(largest, plus)[(k * k // 7) % 3 > 0] + (k % 5 // 3 << 31) for k in range(60)])
+    for tail in (0, 0x72FFFFFF, 0x73000000, 0xF3000000):  # the largest f32 and this
+        yield bright(2, 1, 0, 1, [one, one], [0], [2], [largest, tail])
+    yield bright(2, 1, 0, 1, [heavy, hex64(-(2.0**64))], [0], [2], [largest, largest])  # the sum is 0
+    yield bright(2, 1, 0, 1, [heavy, hex64(2.0**64 * (1 + 2**-52))], [0], [2], [plus, largest])  # a weight above 2^64: refused
 
 
 def bytes_passes(r):

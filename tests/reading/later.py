@@ -1,4 +1,4 @@
-"""What the requests of document 02 change in the reading. Each is a function that puts it in force; `run --with W-206,W-207` calls them, in the order of their numbers.
+"""What the requests of document 02 change in the reading. Each is a function that puts it in force; `run --with W-207,W-208` calls them, in the order of their numbers.
 From W-208 on a request takes W-207 to be in force. When one lands, its lines move to lines.py.
 
 Written from document 02, the decisions on its open points and the protocol alone."""
@@ -10,27 +10,6 @@ import numbers_of_bits as numbers
 import reader
 import weights
 from lines import REQUESTS, SET, LISTS, b64, bytes_of, i16, lent, listed, number, passed, show, u8, u16, u32
-
-
-# W-206: narrowing says whether its result is infinite, and the f32 pass how many samples are.
-
-def infinite32(b):
-    return b % 2**31 == 0x7F800000
-
-
-def narrowed(b):
-    made = numbers.narrow(b)
-    return "%08x %d" % (made, infinite32(made))
-
-
-def counted(*a):
-    no = frames.f32_pass(*a)
-    return "%d %d %s" % (no, sum(map(infinite32, a[-1])) if no == 0 else 0, show(a[-1], "%08x"))
-
-
-def w206():
-    REQUESTS["narrow"] = ((b64,), narrowed)
-    REQUESTS["f32pass"] = (REQUESTS["f32pass"][0], counted)
 
 
 # W-207: each window's excess, the total of its weights in use less 2^precision.
@@ -306,4 +285,4 @@ def w214():
 
 
 IN_FORCE = set()
-LANDS = {"W-206": w206, "W-207": w207, "W-208": w208, "W-209": w209, "W-210": w210, "W-211": w211, "W-213": w213, "W-214": w214}
+LANDS = {"W-207": w207, "W-208": w208, "W-209": w209, "W-210": w210, "W-211": w211, "W-213": w213, "W-214": w214}

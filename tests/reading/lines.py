@@ -103,6 +103,20 @@ def was_read(stores):
     return answer
 
 
+def infinite32(b):
+    return b % 2**31 == 0x7F800000
+
+
+def narrowed(b):
+    made = numbers.narrow(b)
+    return "%08x %d" % (made, infinite32(made))
+
+
+def counted(*a):
+    no = frames.f32_pass(*a)
+    return "%d %d %s" % (no, sum(map(infinite32, a[-1])) if no == 0 else 0, show(a[-1], "%08x"))
+
+
 def pattern_of(of, form):
     return lambda b: form % of(b)
 
@@ -111,14 +125,14 @@ SET, LISTS = (u32, u32), (listed(u32), listed(u32))
 REQUESTS = {name: ((b64,), pattern_of(of, "%016x")) for name, of in
             (("abs", numbers.absolute), ("floor", numbers.floor), ("ceil", numbers.ceil), ("round", numbers.half_away))}
 REQUESTS |= {
-    "widen": ((b32,), pattern_of(numbers.widen, "%016x")), "narrow": ((b64,), pattern_of(numbers.narrow, "%08x")),
+    "widen": ((b32,), pattern_of(numbers.widen, "%016x")), "narrow": ((b64,), narrowed),
     "clip8": ((i32,), lambda n: str(min(max(n, 0), 255))), "filter": ((kind, b64), filtered),
     "crop": ((u32, u32) + (b64,) * 4, lambda w, h, *box: str(weights.crop(w, h, box))),
     "build": ((kind, flag, flag, u32, u32, u32) + (b64,) * 4 + (doubles, lent(), lent()), built),
     "norm16": (SET + (listed(b64),) + LISTS + (lent(),), normalized(22, 15)), "norm32": (SET + (listed(b64),) + LISTS + (lent(),), normalized(46, 31)),
     "u16pass": ((u32,) * 6 + (listed(i32),) + LISTS + (listed(u16), lent()), passed(frames.u16_pass, "%d")),
     "u8pass": ((u32,) * 6 + (listed(i16),) + LISTS + (listed(u8), lent()), passed(frames.u8_pass, "%d")),
-    "f32pass": ((u32,) * 5 + (listed(b64),) + LISTS + (listed(b32), lent(made=lambda v: numbers.narrow(numbers.pattern(float(v))))), passed(frames.f32_pass, "%08x")),
+    "f32pass": ((u32,) * 5 + (listed(b64),) + LISTS + (listed(b32), lent(made=lambda v: numbers.narrow(numbers.pattern(float(v))))), counted),
     "mul8": ((listed(u8), lent()), pixels(frames.multiplied)), "div8": ((listed(u8), lent()), pixels(frames.divided)),
     "mul8in": ((listed(u8),), pixels(frames.multiplied)), "div8in": ((listed(u8),), pixels(frames.divided)),
     "mul16": ((listed(u16), lent()), pixels(frames.multiplied16)), "div16": ((listed(u16), lent()), pixels(frames.divided16)),

@@ -146,7 +146,7 @@ static void shape(int taps, uint32_t *kind, uint32_t *side, uint32_t *out)
 
 static void pass(int floats, int taps, uint32_t row, int port, int runs)
 {
-    uint32_t kind, side, out, no = 0;
+    uint32_t kind, side, out, infinite, no = 0;
     shape(taps, &kind, &side, &out);
     size_t samples = (size_t)side * row, items = (size_t)out * row;
     uint16_t *whole = malloc(samples * 2);
@@ -163,7 +163,7 @@ static void pass(int floats, int taps, uint32_t row, int port, int runs)
     size_t count = (size_t)window * out;
     for (int i = 0; i < runs; i++) {
         if (floats)
-            no = mirror_vertical_f32(real, samples, side, row, 0, row, slots, count, starts, out, sizes, out, window, (float *)written, items);
+            no = mirror_vertical_f32(real, samples, side, row, 0, row, slots, count, starts, out, sizes, out, window, (float *)written, items, &infinite);
         else
             no = mirror_vertical_u16(whole, samples, side, row, 0, row, weights, count, starts, out, sizes, out, window, precision,
                                      (uint16_t *)written, items);

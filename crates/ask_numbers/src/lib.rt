@@ -70,9 +70,19 @@ fn double(operation: u32, line: &[u8], n: usize, out: &mut [u8]) -> Said {
     }
     let x = fields::pattern(line, 1);
     if operation == 5 {
-        return answer_lines::told(emit::hex(numbers::narrow_bits(x) as u64, 8, n, out));
+        return narrow(x, n, out);
     }
     answer_lines::told(emit::hex(rounded(operation, x), 16, n, out))
+}
+
+// The narrowed pattern, and 1 where it is an infinity, else 0.
+fn narrow(x: u64, n: usize, out: &mut [u8]) -> Said {
+    let narrowed = numbers::narrow_bits(x);
+    let p = emit::hex(narrowed.value as u64, 8, n, out);
+    if narrowed.infinite {
+        return answer_lines::told(emit::next_whole(1, p, out));
+    }
+    answer_lines::told(emit::next_whole(0, p, out))
 }
 
 // The pattern of the result.

@@ -64,7 +64,7 @@ fn framed(
     )
 }
 
-// The pass itself; the number and the output.
+// The pass itself; the number, how many samples of the output are infinite, and the output.
 fn pass(
     line: &[u8],
     weights: &[f64],
@@ -90,6 +90,7 @@ fn pass(
         lent,
     );
     let p = emit::whole(answer.number(), n, out);
-    let q = emit::byte(b' ', p, out);
+    let k = emit::next_whole(answer.infinite(), p, out);
+    let q = emit::byte(b' ', k, out);
     answer_lines::told(answer_lines::f32s::show(lent, q, out))
 }

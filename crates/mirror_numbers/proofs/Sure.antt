@@ -1,6 +1,7 @@
 -- The contract of every export decides its answer, every lent list and every number beside it. Cited by docs/CONTRACTS.md. Assumes nothing.
 use mathlib.Core.Path.{_≡_, _∙_, sym}
-use Rattle.lists.proofs.Sure.{DecidesResult}
+use denote.Ref.{now}
+use Rattle.lists.proofs.Sure.{Decides, DecidesResult}
 use Rattle.mirror_numbers.proofs.helpers.mirror_abs.Kinds as abs
 use Rattle.mirror_numbers.proofs.helpers.mirror_abs.Reads as abs-reads
 use Rattle.mirror_numbers.proofs.helpers.mirror_floor.Kinds as floor
@@ -31,8 +32,8 @@ mirror-round-decides κs a x y s t p q = p ∙ sym q
 pub mirror-widen-decides : DecidesResult widen.ps widen.r widen-reads.Post
 mirror-widen-decides κs a x y s t p q = p ∙ sym q
 
-pub mirror-narrow-decides : DecidesResult narrow.ps narrow.r narrow-reads.Post
-mirror-narrow-decides κs a x y s t p q = p ∙ sym q
+pub mirror-narrow-decides : Decides narrow.ps narrow.r narrow-reads.Post (λ κs s t. now (s .1 .0) ≡ now (t .1 .0))
+mirror-narrow-decides κs a x y s t p q = (p .0 ∙ sym (q .0), p .1 ∙ sym (q .1))
 
 pub mirror-clip8-decides : DecidesResult clip8.ps clip8.r clip8-reads.Post
 mirror-clip8-decides κs a x y s t p q = p ∙ sym q

@@ -1,8 +1,9 @@
 // Number helpers on bit patterns, and the 8-bit clip: every input is answered.
 ghost use mathlib.Core.Path.{_≡_};
+ghost use mathlib.Core.Bool.{cond};
 ghost use Prim.Native.Nat.{_%_, _^_};
 ghost use lib.Ieee.{binary32, binary64, ofBits, toBits};
-ghost use Rattle.numbers.specs.Whole.{floor as floorF, ceil as ceilF, roundAway as roundF, narrow as narrowF};
+ghost use Rattle.numbers.specs.Whole.{floor as floorF, ceil as ceilF, roundAway as roundF, narrow as narrowF, isInfinite};
 ghost use Rattle.integers.specs.Sums.{clipped};
 
 // The pattern with its sign cleared.
@@ -45,12 +46,25 @@ pub extern "C" fn mirror_widen(x: u32) -> u64
     numbers::widen_bits(x)
 }
 
-// The nearest binary32 value, ties to even.
+// The nearest binary32 value, ties to even; in `infinite` 1 where that is an infinity, else 0.
 #[no_mangle]
-pub extern "C" fn mirror_narrow(x: u64) -> u32
+pub extern "C" fn mirror_narrow(x: u64, infinite: &mut u32) -> u32
     ensures answer { λ r. ⌜ r ≡ toBits binary32 (narrowF (ofBits binary64 x)) ⌝ }
+    ensures written { λ _. ⌜ now (infinite .exit) ≡ cond (isInfinite (narrowF (ofBits binary64 x))) 1 0 ⌝ }
 {
-    numbers::narrow_bits(x)
+    let narrowed = numbers::narrow_bits(x);
+    *infinite = flag(narrowed.infinite);
+    narrowed.value
+}
+
+// A truth as a number.
+fn flag(b: bool) -> u32
+    ensures answer { λ r. ⌜ r ≡ cond b 1 0 ⌝ }
+{
+    if b {
+        return 1;
+    }
+    0
 }
 
 // The shifted sum clipped to 0..255.

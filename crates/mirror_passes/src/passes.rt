@@ -3,7 +3,7 @@ ghost use mathlib.Core.Path.{_≡_};
 ghost use lib.ListN.{length};
 ghost use Rattle.windows.specs.Set.{layoutOf, setOf, storedOf};
 ghost use Rattle.vertical.specs.Passed.{numberOf};
-ghost use Rattle.vertical.specs.PassedF32.{numberOf as numberOfF32};
+ghost use Rattle.vertical.specs.PassedF32.{numberOf as numberOfF32, infiniteIn};
 ghost use Rattle.vertical.specs.F32.{passedF32, writtenF32};
 ghost use Rattle.vertical.specs.U16.{passedU16, writtenU16};
 use vertical::Frame;
@@ -43,7 +43,7 @@ pub extern "C" fn mirror_vertical_u16(
     ).number()
 }
 
-// The same of f32 samples, with weights as doubles: 0, No. 1, 10 or 12.
+// The same of f32 samples, with weights as doubles, and in `infinite` how many of the written samples are infinite: 0, No. 1, 10 or 12.
 #[no_mangle]
 pub extern "C" fn mirror_vertical_f32(
     src: &[f32],
@@ -56,11 +56,13 @@ pub extern "C" fn mirror_vertical_f32(
     sizes: &[u32],
     window: u32,
     out: &mut [f32],
+    infinite: &mut u32,
 ) -> u32
     ensures answer { λ r. ⌜ r ≡ numberOfF32 (passedF32 (setOf (layoutOf lines window (now (starts .entry)) (now (sizes .entry))) (now (weights .entry))) (now (src .entry)) row first count (length (now (out .entry)))) ⌝ }
     ensures written { λ _. ⌜ now (out .exit) ≡ writtenF32 (setOf (layoutOf lines window (now (starts .entry)) (now (sizes .entry))) (now (weights .entry))) (now (src .entry)) row first count (now (out .entry)) ⌝ }
+    ensures written2 { λ _. ⌜ now (infinite .exit) ≡ infiniteIn (passedF32 (setOf (layoutOf lines window (now (starts .entry)) (now (sizes .entry))) (now (weights .entry))) (now (src .entry)) row first count (length (now (out .entry)))) ⌝ }
 {
-    vertical_f32::vert_convolution_f32(
+    let answer = vertical_f32::vert_convolution_f32(
         src,
         Frame {
             lines: lines,
@@ -73,5 +75,7 @@ pub extern "C" fn mirror_vertical_f32(
         sizes,
         window,
         out,
-    ).number()
+    );
+    *infinite = answer.infinite();
+    answer.number()
 }

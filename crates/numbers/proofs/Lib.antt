@@ -4,6 +4,7 @@ pub mod WholeLaws
 pub mod Directions
 pub mod NarrowLaws
 pub mod Codes
+pub mod Infinite
 pub mod WholeCodes
 pub mod Window
 pub mod AtLeast

@@ -1,3 +1,4 @@
 pub mod Whole
+pub mod Narrowed
 pub mod Inner
 pub mod Window

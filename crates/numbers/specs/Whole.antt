@@ -1,7 +1,7 @@
 -- Absolute value, floor, ceiling, rounding half away from zero and narrowing, on the values of IEEE 754. Cited by every contract of `numbers`.
 -- Each rounding works out a whole number from the size m * up e / down e of its argument and hands it to the model's `round` with the argument's
 -- sign, so that a zero result has that sign. An infinity stays, and a NaN gives the NaN. Definitions only. Assumes nothing.
-use mathlib.Core.Bool.{Bool, false, cond}
+use mathlib.Core.Bool.{Bool, true, false, cond}
 use Prim.Native.Nat.{ℕ, _+_, _-_, _*_, _/_}
 use lib.Ieee.{Float, nan, inf, fin, Format, binary32, up, down, round}
 use Rattle.integers.specs.Nearest.{nearest}
@@ -55,3 +55,9 @@ unfoldable pub narrow : Float → Float
 narrow nan = nan
 narrow (inf s) = inf s
 narrow (fin s m e) = round binary32 s (m * up e) (down e)
+
+-- whether x is an infinity, of either sign; the NaN is none
+abbrev pub isInfinite : Float → Bool
+isInfinite nan = false
+isInfinite (inf s) = true
+isInfinite (fin s m e) = false

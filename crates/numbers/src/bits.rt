@@ -2,11 +2,13 @@
 ghost use mathlib.Core.Path.{_≡_};
 ghost use Prim.Native.Nat.{_^_, _%_};
 ghost use lib.Ieee.{binary32, binary64, toBits, ofBits};
-ghost use Rattle.numbers.specs.Whole.{floor as floorF, ceil as ceilF, roundAway as roundF, narrow as narrowF};
+ghost use Rattle.numbers.specs.Whole.{floor as floorF, ceil as ceilF, roundAway as roundF};
+ghost use Rattle.numbers.specs.Narrowed.{narrowedBits};
 use super::narrowing::narrow_size;
 use super::whole::ceil_pattern;
 use super::whole::floor_pattern;
 use super::whole::round_pattern;
+use crate::NarrowedBits;
 
 // The sign bit, the infinity and the quiet NaN of binary64.
 const SIGN: u64 = 0x8000_0000_0000_0000;
@@ -62,17 +64,27 @@ pub fn widen_bits(b: u32) -> u64
     f64::to_bits(f32::from_bits(b) as f64)
 }
 
-// The binary32 pattern of the narrowed value: the size is narrowed, and the sign moves from bit 63 to bit 31.
-pub fn narrow_bits(b: u64) -> u32
-    ensures answer { λ r. ⌜ r ≡ toBits binary32 (narrowF (ofBits binary64 b)) ⌝ }
+// The binary32 pattern of the narrowed value, and whether it is an infinity: the size is narrowed, and the sign moves from bit 63 to bit 31.
+pub fn narrow_bits(b: u64) -> NarrowedBits
+    ensures answer { λ r. ⌜ r ≡ narrowedBits b ⌝ }
 {
     let p = b % SIGN;
     if p > INFINITY {
-        return 0x7fc0_0000;
+        return NarrowedBits {
+            value: 0x7fc0_0000,
+            infinite: false,
+        };
     }
     let y = narrow_size(p) as u32;
+    let infinite = y == 0x7f80_0000;
     if b < SIGN {
-        return y;
+        return NarrowedBits {
+            value: y,
+            infinite: infinite,
+        };
     }
-    y + 0x8000_0000
+    NarrowedBits {
+        value: y + 0x8000_0000,
+        infinite: infinite,
+    }
 }

@@ -16,7 +16,7 @@ use Rattle.vertical.specs.declared.Passed.the-variants as passed
 use Rattle.vertical.specs.Passed.{numberOf as numberOfPassed}
 use Rattle.vertical.specs.declared.PassedF32.{PassedF32}
 use Rattle.vertical.specs.declared.PassedF32.the-variants as passed-f32
-use Rattle.vertical.specs.PassedF32.{numberOf as numberOfPassedF32}
+use Rattle.vertical.specs.PassedF32.{numberOf as numberOfPassedF32, infiniteIn}
 
 -- no refusal has the number 0
 numbered : (r : Refusal) → 0 < numberOf r
@@ -38,8 +38,8 @@ pub passed-done : (a : Passed) → numberOfPassed a ≡ 0 → a ≡ passed.Done
 passed-done passed.Done h = refl
 passed-done (passed.Refused r) h = absurd (omega (arith, numbered r, h))
 
-pub passed-done-f32 : (a : PassedF32) → numberOfPassedF32 a ≡ 0 → a ≡ passed-f32.Done
-passed-done-f32 passed-f32.Done h = refl
+pub passed-done-f32 : (a : PassedF32) → numberOfPassedF32 a ≡ 0 → a ≡ passed-f32.Done (infiniteIn a)
+passed-done-f32 (passed-f32.Done n) h = refl
 passed-done-f32 (passed-f32.Refused r) h = absurd (omega (arith, numbered r, h))
 
 pub built-done : (a : Built) → numberOfBuilt a ≡ 0 → a ≡ built.Done (windowOf a)

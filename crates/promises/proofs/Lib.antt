@@ -12,6 +12,8 @@ pub mod BoxPrecision
 pub mod BoxPremise
 pub mod BoxFlat
 pub mod ColumnCuts
+pub mod InfiniteLimit
+pub mod InfiniteCounts
 pub mod Refused
 pub mod Restated
 pub mod Table

@@ -122,7 +122,7 @@ passed-kept passed.Done written old n0 = absurd (n0 refl)
 passed-kept (passed.Refused r) written old n0 = refl
 
 passed-kept-f32 : (a : PassedF32) (written old : List Float) → Not 0 (numberOfPassedF32 a) → after-f32 a written old ≡ old
-passed-kept-f32 passed-f32.Done written old n0 = absurd (n0 refl)
+passed-kept-f32 (passed-f32.Done n) written old n0 = absurd (n0 refl)
 passed-kept-f32 (passed-f32.Refused r) written old n0 = refl
 
 applied-kept : (t : Bool) (written old : List ℕ) → Not 0 (numberOfApplied (cond t (applied.Refused DoesNotFit) applied.Done)) → cond t old written ≡ old

@@ -7,3 +7,4 @@ pub mod AlphaSteps
 pub mod ClipRule
 pub mod Table
 pub mod ReadBack
+pub mod InfiniteCounts

@@ -32,10 +32,10 @@ pub refused : {r : Refusal} → passed.Refused r ≡ passed.Done → ⊥
 refused h = never (sym (ap done h))
 
 abbrev done-f32 : PassedF32 → Bool
-done-f32 passed-f32.Done = true
+done-f32 (passed-f32.Done n) = true
 done-f32 (passed-f32.Refused r) = false
 
-refused-f32 : {r : Refusal} → passed-f32.Refused r ≡ passed-f32.Done → ⊥
+refused-f32 : {r : Refusal} {n : ℕ} → passed-f32.Refused r ≡ passed-f32.Done n → ⊥
 refused-f32 h = never (sym (ap done-f32 h))
 
 -- sides, set, frame and columns fit: neither pass refuses for these
@@ -93,7 +93,7 @@ pub record TestsF32 (s : Set Float) (src : List Float) (row first count room : �
   pub weights : badWeights s ≡ false
   pub samples : badSamples s src row first count ≡ false
 
-pub tests-f32 : (s : Set Float) (src : List Float) (row first count room : ℕ) → passedF32 s src row first count room ≡ passed-f32.Done → TestsF32 s src row first count room
+pub tests-f32 : (s : Set Float) (src : List Float) (row first count room : ℕ) {n : ℕ} → passedF32 s src row first count room ≡ passed-f32.Done n → TestsF32 s src row first count room
 unfolding passedF32
 tests-f32 s src row first count room h =
     let size = ladder (badSize (s .layout .lines) (windows (s .layout)) row) refused-f32 h in

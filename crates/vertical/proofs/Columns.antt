@@ -18,7 +18,7 @@ use Rattle.vertical.specs.declared.Passed.the-variants.{Done}
 use Rattle.vertical.specs.declared.PassedF32.the-variants.{Done as DoneF32}
 use Rattle.vertical.specs.Frame.{frame, output, columns}
 use Rattle.vertical.specs.U16.{valueAt, passedU16, writtenU16}
-use Rattle.vertical.specs.F32.{valueF32, badLine, badSamples, passedF32, writtenF32}
+use Rattle.vertical.specs.F32.{valueF32, infinities, badLine, badSamples, passedF32, writtenF32}
 use Rattle.vertical.proofs.Answers.{reshaped, tests-u16, tests-f32}
 
 pub some-column : (windows count k : ℕ) → k < windows * count → 0 < count
@@ -60,14 +60,14 @@ samples s src row first count fit =
     (λ i l. any-mono (badLine s src row 0 row i) (badLine s src row first count i) (size (s .layout) i)
     (λ k l h. any-part (λ j. not (isFinite (sample (s .layout) (frame nan src row) i j k))) row first count fit (simp zero-add at h)))
 
-module _ (s : Set Float) (src : List Float) (row : ℕ) (whole : List Float) (done : passedF32 s src row 0 row (length whole) ≡ DoneF32)
+module _ (s : Set Float) (src : List Float) (row : ℕ) (whole : List Float) {n : ℕ} (done : passedF32 s src row 0 row (length whole) ≡ DoneF32 n)
     (first count : ℕ) (list : List Float) (fit : first + count ≤ row) (rooms : length list ≡ windows (s .layout) * count) where
-  range-done-f32 : passedF32 s src row first count (length list) ≡ DoneF32
+  range-done-f32 : passedF32 s src row first count (length list) ≡ DoneF32 (infinities (output (valueF32 s (frame nan src row)) (windows (s .layout)) first count))
   unfolding passedF32
   range-done-f32 =
       let t = tests-f32 s src row 0 row (length whole) done in
       rw (t .size, reshaped s (length src) row 0 row (length whole) (t .shape) first count (length list) fit rooms, t .weights, samples s src row first count fit (t .samples))
 
-  pub columns-cut-f32 : (passedF32 s src row first count (length list) ≡ DoneF32) × (writtenF32 s src row first count list ≡ columns nan row (windows (s .layout)) first count (writtenF32 s src row 0 row whole))
+  pub columns-cut-f32 : (passedF32 s src row first count (length list) ≡ DoneF32 (infinities (output (valueF32 s (frame nan src row)) (windows (s .layout)) first count))) × (writtenF32 s src row first count list ≡ columns nan row (windows (s .layout)) first count (writtenF32 s src row 0 row whole))
   unfolding writtenF32
   columns-cut-f32 = (range-done-f32, rw (range-done-f32, done) (columns-cut (valueF32 s (frame nan src row)) nan (windows (s .layout)) row first count fit))

@@ -1,5 +1,7 @@
 pub mod Answers
 pub mod Columns
+pub mod F32Infinite
+pub mod F32Counts
 pub mod Turns
 pub mod Values
 pub mod ColumnLaws

@@ -4,7 +4,7 @@ use mathlib.Core.Path.{_≡_, refl}
 use mathlib.Core.Bool.{Bool, true, false, cond, _||_}
 use mathlib.Core.List.{List, [], _∷_}
 use Prim.Native.Nat.{ℕ}
-use lib.Ieee.{Float}
+use lib.Ieee.{Float, nan}
 use lib.ListN.{length}
 use Rattle.lists.specs.Ladder.{Exactly, given, Due}
 use Rattle.lists.proofs.LadderLaws.{exactly-due}
@@ -15,9 +15,9 @@ use Rattle.vertical.specs.declared.Passed.the-variants.{Done, Refused}
 use Rattle.vertical.specs.declared.PassedF32.the-variants.{Done as DoneF32, Refused as RefusedF32}
 use Rattle.vertical.specs.Passed.{numberOf}
 use Rattle.vertical.specs.PassedF32.{numberOf as numberOfF32}
-use Rattle.vertical.specs.Frame.{badSize, badShape}
+use Rattle.vertical.specs.Frame.{frame, output, badSize, badShape}
 use Rattle.vertical.specs.U16.{passedU16}
-use Rattle.vertical.specs.F32.{badWeights, badSamples, passedF32}
+use Rattle.vertical.specs.F32.{valueF32, infinities, badWeights, badSamples, passedF32}
 
 numbered : (a b c : Bool) → numberOf (cond a (Refused BadSide) (cond b (Refused DoesNotFit) (cond c (Refused DoesNotFit) Done))) ≡ cond a 1 (cond (b || c) 10 0)
 numbered true b c = refl
@@ -42,12 +42,12 @@ module _ (s : Stored) (samples row first count room : ℕ) where
   pub passed-u16-exactly : (n : ℕ) → Exactly (numberOf (passedU16 s samples row first count room) ≡ n) (Due n rowsU16)
   passed-u16-exactly n = rw is (exactly-due n rowsU16 refl)
 
-numbered-f32 : (a b c d : Bool) → numberOfF32 (cond a (RefusedF32 BadSide) (cond b (RefusedF32 DoesNotFit) (cond c (RefusedF32 SampleOutside) (cond d (RefusedF32 SampleOutside) DoneF32)))) ≡ cond a 1 (cond b 10 (cond (c || d) 12 0))
-numbered-f32 true b c d = refl
-numbered-f32 false true c d = refl
-numbered-f32 false false true d = refl
-numbered-f32 false false false true = refl
-numbered-f32 false false false false = refl
+numbered-f32 : (a b c d : Bool) (n : ℕ) → numberOfF32 (cond a (RefusedF32 BadSide) (cond b (RefusedF32 DoesNotFit) (cond c (RefusedF32 SampleOutside) (cond d (RefusedF32 SampleOutside) (DoneF32 n))))) ≡ cond a 1 (cond b 10 (cond (c || d) 12 0))
+numbered-f32 true b c d n = refl
+numbered-f32 false true c d n = refl
+numbered-f32 false false true d n = refl
+numbered-f32 false false false true n = refl
+numbered-f32 false false false false n = refl
 
 module _ (s : Set Float) (src : List Float) (row first count room : ℕ) where
   -- sides and row; set, frame and columns; weights and samples in use
@@ -63,6 +63,7 @@ module _ (s : Set Float) (src : List Float) (row first count room : ℕ) where
   f32-is =
       numbered-f32 (badSize (s .layout .lines) (windows (s .layout)) row)
       (badShape (s .layout) (length (s .weights)) (length src) row first count room) (badWeights s) (badSamples s src row first count)
+      (infinities (output (valueF32 s (frame nan src row)) (windows (s .layout)) first count))
 
   pub passed-f32-exactly : (n : ℕ) → Exactly (numberOfF32 (passedF32 s src row first count room) ≡ n) (Due n rowsF32)
   passed-f32-exactly n = rw f32-is (exactly-due n rowsF32 refl)

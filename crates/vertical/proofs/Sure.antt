@@ -1,4 +1,4 @@
--- The contracts of `size_fits`, `shape_fits` and `number` decide their answers. Assumes nothing.
+-- The contracts of `size_fits`, `shape_fits`, `number` and `infinite` decide their answers. Assumes nothing.
 use mathlib.Core.Path.{_∙_, sym}
 use Rattle.lists.proofs.Sure.{DecidesResult}
 use Rattle.vertical.proofs.size_fits.Kinds as size
@@ -9,6 +9,8 @@ use Rattle.vertical.proofs.Passed.number.Kinds as number
 use Rattle.vertical.proofs.Passed.number.Reads as number-reads
 use Rattle.vertical.proofs.PassedF32.number.Kinds as number-f32
 use Rattle.vertical.proofs.PassedF32.number.Reads as number-f32-reads
+use Rattle.vertical.proofs.PassedF32.infinite.Kinds as infinite
+use Rattle.vertical.proofs.PassedF32.infinite.Reads as infinite-reads
 
 pub size-fits-decides : DecidesResult size.ps size.r size-reads.Post
 size-fits-decides κs a x y s t p q = p ∙ sym q
@@ -21,3 +23,6 @@ number-decides κs a x y s t p q = p ∙ sym q
 
 pub number-f32-decides : DecidesResult number-f32.ps number-f32.r number-f32-reads.Post
 number-f32-decides κs a x y s t p q = p ∙ sym q
+
+pub infinite-decides : DecidesResult infinite.ps infinite.r infinite-reads.Post
+infinite-decides κs a x y s t p q = p ∙ sym q

@@ -5,4 +5,5 @@ pub mod Ready
 pub mod Column
 pub mod U16
 pub mod F32
+pub mod F32Counts
 pub mod Example

@@ -1,7 +1,7 @@
 // The number of an answer.
 ghost use mathlib.Core.Path.{_≡_};
 ghost use Rattle.vertical.specs.Passed.{numberOf};
-ghost use Rattle.vertical.specs.PassedF32.{numberOf as numberOfF32};
+ghost use Rattle.vertical.specs.PassedF32.{numberOf as numberOfF32, infiniteIn};
 use crate::Passed;
 use crate::PassedF32;
 
@@ -23,8 +23,17 @@ impl PassedF32 {
         ensures answer { λ r. ⌜ r ≡ numberOfF32 self ⌝ }
     {
         match self {
-            PassedF32::Done => 0,
+            PassedF32::Done(_) => 0,
             PassedF32::Refused(refusal) => refusal::number(refusal),
+        }
+    }
+    // How many samples of the output are infinite; 0 where none was written.
+    pub fn infinite(self) -> u32
+        ensures answer { λ r. ⌜ r ≡ infiniteIn self ⌝ }
+    {
+        match self {
+            PassedF32::Done(infinite) => infinite,
+            PassedF32::Refused(_) => 0,
         }
     }
 }

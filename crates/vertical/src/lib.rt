@@ -32,8 +32,8 @@ pub enum Passed {
 }
 
 pub enum PassedF32 {
-    // 0: every window's row is written
-    Done,
+    // 0: every window's row is written; how many samples of them are infinite
+    Done(u32),
     // why not; the output is unchanged
     Refused(Refusal),
 }

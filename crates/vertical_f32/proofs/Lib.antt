@@ -4,12 +4,8 @@ pub mod Overflow
 pub mod SignBack
 pub mod Narrowed
 pub mod Fast
-pub mod Decided
 pub mod SumLaws
-pub mod Lanes
-pub mod WeightSize
 pub mod Turns
-pub mod Flags
 pub mod Values
 pub mod Judged
 pub mod Sure

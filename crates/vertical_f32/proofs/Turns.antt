@@ -11,7 +11,7 @@ use Rattle.floats.specs.Within.{AtMost}
 use Rattle.vertical.specs.Ready.{Ready}
 use Rattle.vertical.proofs.Turns.{WindowThere, window-there}
 use Rattle.vertical_f32.specs.Column.{Summable}
-use Rattle.vertical_f32.specs.Scan.{SmallSamples, SmallWeights}
+use Rattle.finite_f32.specs.Scan.{SmallSamples, SmallWeights}
 
 module _ (src : List Float) (row first count : ℕ) (starts sizes : List ℕ) (window : ℕ) (weights : List Float) (room : ℕ)
     (r : Ready (length src) row first count starts sizes window (length weights) room) (heavy : SmallWeights starts sizes window weights) (light : SmallSamples src row first count starts sizes)

@@ -3,25 +3,23 @@
 mod columns;
 mod narrowing;
 mod rows;
-mod samples;
-mod scan;
 mod sums;
-mod weights;
 
+use finite_f32::counted;
+use finite_f32::samples_fit;
+use finite_f32::weights_fit;
 use refusal::Refusal;
 use rows::rows;
-use samples::samples_fit;
 use vertical::Frame;
 use vertical::PassedF32;
 use vertical::shape_fits;
 use vertical::size_fits;
-use weights::weights_fit;
 ghost use mathlib.Core.Path.{_≡_};
 ghost use lib.ListN.{length};
 ghost use Rattle.windows.specs.Set.{layoutOf, setOf};
 ghost use Rattle.vertical.specs.F32.{passedF32, writtenF32};
 
-// The value of every window at every column of the range, in `out`; refused with `out` unchanged exactly where document 01 says so.
+// The value of every window at every column of the range, in `out`, and how many of them are infinite; refused with `out` unchanged exactly where document 01 says so.
 pub fn vert_convolution_f32(
     src: &[f32],
     frame: Frame,
@@ -61,7 +59,7 @@ pub fn vert_convolution_f32(
     ) {
         return PassedF32::Refused(Refusal::SampleOutside);
     }
-    rows(
+    let finite = rows(
         src,
         frame.row as usize,
         frame.first as usize,
@@ -72,5 +70,5 @@ pub fn vert_convolution_f32(
         window_size as usize,
         out,
     );
-    PassedF32::Done
+    PassedF32::Done(counted(finite, out))
 }

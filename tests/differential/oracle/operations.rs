@@ -53,8 +53,8 @@ fn helper(name: &str, word: &str, bare: bool) -> Option<String> {
         "floor" => hex64(&plain(x.floor(), bare)),
         "ceil" => hex64(&plain(x.ceil(), bare)),
         "round" => hex64(&plain(x.round(), bare)),
-        _ if x.is_nan() && !bare => hex32(&f32::from_bits(0x7fc0_0000)),
-        _ => hex32(&(x as f32)),
+        _ if x.is_nan() && !bare => format!("{} 0", hex32(&f32::from_bits(0x7fc0_0000))),
+        _ => format!("{} {}", hex32(&(x as f32)), (x as f32).is_infinite() as u32),
     })
 }
 
@@ -279,12 +279,13 @@ fn f32pass(fields: &[&str], bare: bool) -> Option<String> {
             no => no,
         };
         if no != 0 {
-            return Some(format!("{no} {}", shown(&out, hex32)));
+            return Some(format!("{no} 0 {}", shown(&out, hex32)));
         }
     }
     let set = Weights { window: window as usize, slots, starts, sizes };
     theirs::f32pass(lines, row, first, count, &set, &samples, &mut out);
-    Some(format!("0 {}", shown(&out, hex32)))
+    let infinite = out.iter().filter(|x| x.is_infinite()).count();
+    Some(format!("0 {infinite} {}", shown(&out, hex32)))
 }
 
 fn alpha(divide: bool, fields: &[&str], bare: bool) -> Option<String> {

@@ -1,16 +1,22 @@
 -- Each way out is one lemma of `Judged`, at the set that the lists make; what the judge and the scans said gives `rows` its premises. Assumes nothing.
 use borrow.Author.Needs.{needs}
 use borrow.Author.Tests.{not-false}
+use mathlib.Core.Path.{ap, _∙_}
+use Prim.Native.Nat.{_≤_}
+use native.Mathlib.Nat.{mul-le-mul}
+use native.Mathlib.Omega.{arith}
 use lib.Ieee.{Float}
 use lib.ListN.{length}
 use Rattle.lists.proofs.BoolLaws.{asked-bad, asked-good}
 use Rattle.vertical.proofs.Answers.{shaped}
 use Rattle.vertical.proofs.Turns.{ready}
+use Rattle.vertical.specs.declared.PassedF32.the-variants.{Done}
 use Rattle.vertical.specs.F32.{badWeights, badSamples}
 use Rattle.vertical.specs.Frame.{badSize, badShape}
 use Rattle.windows.specs.Set.{Set, layoutOf, setOf, windows}
-use Rattle.vertical_f32.proofs.Flags.{weights-said, samples-said}
-use Rattle.vertical_f32.proofs.Judged.{bad-size, bad-shape, bad-weights, bad-samples, done}
+use Rattle.finite_f32.proofs.Flags.{weights-said, samples-said}
+use Rattle.vertical_f32.specs.Column.{windowValue}
+use Rattle.vertical_f32.proofs.Judged.{bad-size, bad-shape, bad-weights, bad-samples, all-finite, done}
 use Rattle.vertical_f32.proofs.vert_convolution_f32.Statement.{statement}
 use Rattle.vertical_f32.proofs.vert_convolution_f32.Tie as tie
 
@@ -105,22 +111,39 @@ rows-requires c κs =
       ),
     )
 
+counted-requires : tie.Need-counted-requires
+counted-requires c κs =
+    let a = c .before .before .before .before .before .before .before .before .before .before .before .before .before .before .before .before .before .before .before .before .before .before .before .before .args in
+    let s : Set Float = setOf (layoutOf (a .frame .lines) (a .window-size) (a .starts .now) (a .sizes .now)) (a .weights .now) in
+    let q = ready s (length (a .src .now)) (a .frame .row) (a .frame .first) (a .frame .count) (length (a .out .now))
+    (shaped s (length (a .src .now)) (a .frame .row) (a .frame .first) (a .frame .count) (length (a .out .now))
+    (asked-good (badSize (s .layout .lines) (windows (s .layout)) (a .frame .row)) (c .before .before .before .before .before .before .before .before .before .before .before .before .before .before .before .before .before .before .size-fits .ensures) (c .before .before .before .before .before .before .before .before .before .before .before .before .before .before .before .before .before .if1 .left))
+    (asked-good (badShape (s .layout) (length (s .weights)) (length (a .src .now)) (a .frame .row) (a .frame .first) (a .frame .count) (length (a .out .now))) (c .before .before .before .before .before .before .before .before .before .before .before .before .before .before .before .before .shape-fits .ensures) (c .before .before .before .before .before .before .before .before .before .before .before .before .before .before .before .if2 .left))) in
+    let r = c .before .before .before .rows in
+    let few : a .frame .count ≤ 32768 = omega (arith, q .fit, q .narrow) in (
+      omega (arith, r .kept .1 .1 .1 .1 .1 .1 .1 .1 .0, q .rooms, mul-le-mul (q .set .few-windows) few),
+      (λ e. all-finite (windowValue (a .src .now) (a .frame .row) (a .frame .first) (a .starts .now) (a .sizes .now) (a .window-size) (a .weights .now)) (length (a .starts .now)) (a .frame .count)
+          (r .last .1 .1 .1 .1 .1 .1 .1 .1 .0) (r .kept .1 .1 .1 .1 .1 .1 .1 .1 .0 ∙ q .rooms) (r .ensures .0) (r .ensures .1 e)),
+    )
+
 same-length : tie.Need-same-length
 same-length c = search needs
 
 returns-5 : tie.Need-returns-5
 returns-5 c =
-    let a = c .before .before .before .before .before .before .before .before .before .before .before .before .before .before .before .before .before .before .before .before .before .before .before .args in
+    let a = c .before .before .before .before .before .before .before .before .before .before .before .before .before .before .before .before .before .before .before .before .before .before .before .before .before .args in
     let s : Set Float = setOf (layoutOf (a .frame .lines) (a .window-size) (a .starts .now) (a .sizes .now)) (a .weights .now) in
-    let r = c .before .before .rows in
+    let r = c .before .before .before .before .rows in
+    let d =
     done s (a .src .now) (a .frame .row) (a .frame .first) (a .frame .count) (a .out .now)
-    (asked-good (badSize (s .layout .lines) (windows (s .layout)) (a .frame .row)) (c .before .before .before .before .before .before .before .before .before .before .before .before .before .before .before .before .before .size-fits .ensures) (c .before .before .before .before .before .before .before .before .before .before .before .before .before .before .before .before .if1 .left))
-    (asked-good (badShape (s .layout) (length (s .weights)) (length (a .src .now)) (a .frame .row) (a .frame .first) (a .frame .count) (length (a .out .now))) (c .before .before .before .before .before .before .before .before .before .before .before .before .before .before .before .shape-fits .ensures) (c .before .before .before .before .before .before .before .before .before .before .before .before .before .before .if2 .left))
-    (asked-good (badWeights s) (weights-said s (c .before .before .before .before .before .before .before .before .before .before .before .before .before .weights-fit .result) (c .before .before .before .before .before .before .before .before .before .before .before .before .before .weights-fit .ensures .0) (c .before .before .before .before .before .before .before .before .before .before .before .before .before .weights-fit .ensures .1)) (c .before .before .before .before .before .before .before .before .before .before .before .before .if3 .left))
-    (asked-good (badSamples s (a .src .now) (a .frame .row) (a .frame .first) (a .frame .count)) (samples-said s (a .src .now) (a .frame .row) (a .frame .first) (a .frame .count) (c .before .before .before .before .before .before .before .before .samples-fit .result) (c .before .before .before .before .before .before .before .before .samples-fit .ensures .0) (c .before .before .before .before .before .before .before .before .samples-fit .ensures .1)) (c .before .before .before .before .before .before .before .if4 .left))
+    (asked-good (badSize (s .layout .lines) (windows (s .layout)) (a .frame .row)) (c .before .before .before .before .before .before .before .before .before .before .before .before .before .before .before .before .before .before .before .size-fits .ensures) (c .before .before .before .before .before .before .before .before .before .before .before .before .before .before .before .before .before .before .if1 .left))
+    (asked-good (badShape (s .layout) (length (s .weights)) (length (a .src .now)) (a .frame .row) (a .frame .first) (a .frame .count) (length (a .out .now))) (c .before .before .before .before .before .before .before .before .before .before .before .before .before .before .before .before .before .shape-fits .ensures) (c .before .before .before .before .before .before .before .before .before .before .before .before .before .before .before .before .if2 .left))
+    (asked-good (badWeights s) (weights-said s (c .before .before .before .before .before .before .before .before .before .before .before .before .before .before .before .weights-fit .result) (c .before .before .before .before .before .before .before .before .before .before .before .before .before .before .before .weights-fit .ensures .0) (c .before .before .before .before .before .before .before .before .before .before .before .before .before .before .before .weights-fit .ensures .1)) (c .before .before .before .before .before .before .before .before .before .before .before .before .before .before .if3 .left))
+    (asked-good (badSamples s (a .src .now) (a .frame .row) (a .frame .first) (a .frame .count)) (samples-said s (a .src .now) (a .frame .row) (a .frame .first) (a .frame .count) (c .before .before .before .before .before .before .before .before .before .before .samples-fit .result) (c .before .before .before .before .before .before .before .before .before .before .samples-fit .ensures .0) (c .before .before .before .before .before .before .before .before .before .before .samples-fit .ensures .1)) (c .before .before .before .before .before .before .before .before .before .if4 .left))
     (r .last .1 .1 .1 .1 .1 .1 .1 .1 .0)
     (r .kept .1 .1 .1 .1 .1 .1 .1 .1 .0)
-    (r .ensures)
+    (r .ensures .0) in
+    (ap Done (c .counted .ensures) ∙ d .0, d .1)
 
 pub vert-convolution-f32-spec : {M : Type 1} → statement M
 vert-convolution-f32-spec =
@@ -141,5 +164,6 @@ vert-convolution-f32-spec =
     cast-rows-2
     cast-rows-3
     rows-requires
+    counted-requires
     same-length
     returns-5)

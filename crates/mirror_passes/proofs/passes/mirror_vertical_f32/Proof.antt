@@ -1,12 +1,15 @@
--- `mirror_vertical_f32`: the number of the pass's answer, and its output. Assumes nothing.
+-- `mirror_vertical_f32`: the number of the pass's answer and the count beside it, and its output. Assumes nothing.
 use mathlib.Core.Path.{_∙_, ap}
 use borrow.Author.Needs.{needs}
-use Rattle.vertical.specs.PassedF32.{numberOf}
+use Rattle.vertical.specs.PassedF32.{numberOf, infiniteIn}
 use Rattle.mirror_passes.proofs.passes.mirror_vertical_f32.Statement.{statement}
 use Rattle.mirror_passes.proofs.passes.mirror_vertical_f32.Tie as tie
 
 vert-convolution-f32-requires : tie.Need-vert-convolution-f32-requires
 vert-convolution-f32-requires c κs = search needs
+
+infinite-requires : tie.Need-infinite-requires
+infinite-requires c κs = search needs
 
 number-requires : tie.Need-number-requires
 number-requires c κs = search needs
@@ -15,8 +18,11 @@ same-length : tie.Need-same-length
 same-length c = search needs
 
 returns : tie.Need-returns
-returns c = let call = c .before .before .before .vert-convolution-f32 .ensures in (c .number .ensures ∙ ap numberOf (call .0), call .1)
+returns c =
+    let call = c .before .before .before .before .vert-convolution-f32 .ensures in
+    (c .number .ensures ∙ ap numberOf (call .0), (call .1, c .before .infinite .ensures ∙ ap infiniteIn (call .0)))
 
 pub mirror-vertical-f32-spec : {M : Type 1} → statement M
 mirror-vertical-f32-spec =
-    tie.close (tie.spec vert-convolution-f32-requires number-requires same-length returns)
+    tie.close
+    (tie.spec vert-convolution-f32-requires infinite-requires number-requires same-length returns)

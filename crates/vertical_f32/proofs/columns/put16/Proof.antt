@@ -6,37 +6,33 @@ use native.Mathlib.Nat.{not-suc-le-zero}
 use lib.ListN.{length, getD, length-set}
 use lib.Ieee.{nan}
 use Rattle.lists.proofs.StoreLaws.{set-shift, set-low}
-use Rattle.numbers.specs.Whole.{narrow}
 use Rattle.vertical_f32.proofs.columns.put16.Statement.{statement}
 use Rattle.vertical_f32.proofs.columns.put16.Tie as tie
 
 abbrev Inv-loop : tie.InvT-loop
-Inv-loop out₀ j ss t₀ out t =
+Inv-loop out₀ j ys t₀ out t =
     (t ≤ 16)
     × (length out ≡ length out₀)
-    × ((x : ℕ) → x < t → getD out (j + x) nan ≡ narrow (getD ss x nan))
+    × ((x : ℕ) → x < t → getD out (j + x) nan ≡ getD ys x nan)
     × ((x : ℕ) → x < j → getD out x nan ≡ getD out₀ x nan)
 
 abbrev μ-loop : tie.MeasureT-loop
-μ-loop out₀ j ss t₀ out t = 16 - t
+μ-loop out₀ j ys t₀ out t = 16 - t
 
 loop-holds : tie.Need-loop-holds Inv-loop μ-loop
 loop-holds c = (omega arith, refl, (λ x h. absurd (not-suc-le-zero h)), (λ x h. refl))
 
-mul-narrow : tie.Need-mul-narrow Inv-loop μ-loop
-mul-narrow c = omega arith
+mul-out : tie.Need-mul-out Inv-loop μ-loop
+mul-out c = omega arith
 
-array-read-narrow : tie.Need-array-read-narrow Inv-loop μ-loop
-array-read-narrow c = omega arith
-
-narrow-requires : tie.Need-narrow-requires Inv-loop μ-loop
-narrow-requires c κs = c .before .before .before .pre .0 (c .before .loop .t) (omega arith)
+array-read-out : tie.Need-array-read-out Inv-loop μ-loop
+array-read-out c = omega arith
 
 add-out : tie.Need-add-out Inv-loop μ-loop
 add-out c = omega arith
 
-mul-out : tie.Need-mul-out Inv-loop μ-loop
-mul-out c = omega arith
+mul-out-2 : tie.Need-mul-out-2 Inv-loop μ-loop
+mul-out-2 c = omega arith
 
 slice-write-out : tie.Need-slice-write-out Inv-loop μ-loop
 slice-write-out c = omega arith
@@ -49,11 +45,11 @@ loop-less c = omega arith
 
 loop-again : tie.Need-loop-again Inv-loop μ-loop
 loop-again c =
-    let l = c .before .before in
-    let a = l .before .before .args in (
+    let l = c .before in
+    let a = l .before .args in (
       omega arith,
       simp length-set (l .loop .inv .1),
-      set-shift (l .loop .out) (l .loop .t) _ nan (λ (x : ℕ). narrow (getD (a .t1) x nan)) (a .j) (omega arith) (c .narrow .ensures) (l .loop .inv .2),
+      set-shift (l .loop .out) (l .loop .t) _ nan (λ (x : ℕ). getD (a .t1) x nan) (a .j) (omega arith) refl (l .loop .inv .2),
       set-low (l .loop .out) (a .j + l .loop .t) _ nan (λ (x : ℕ). getD (a .out .now) x nan) (a .j) (omega arith) (l .loop .inv .3),
     )
 
@@ -70,11 +66,10 @@ put16-spec =
     Inv-loop
     μ-loop
     loop-holds
-    mul-narrow
-    array-read-narrow
-    narrow-requires
-    add-out
     mul-out
+    array-read-out
+    add-out
+    mul-out-2
     slice-write-out
     add-t
     loop-less
