@@ -31,12 +31,12 @@ enum {
     MIRROR_START_OUTSIDE = 4,    /* left or top below 0, or at or past the image side */
     MIRROR_END_OUTSIDE = 5,      /* left + width, or top + height, past the image side: the exact sum, nothing rounded */
     MIRROR_NO_SCALE = 6,         /* scale is 0 or less */
-    MIRROR_TOO_FEW_SLOTS = 7,    /* fewer slots, starts or sizes lent than needed */
+    MIRROR_TOO_FEW_SLOTS = 7,    /* fewer slots, starts, sizes or excesses lent than needed */
     MIRROR_BLANK_WINDOW = 8,     /* a window has no weight other than 0, or its weight total is 0; the first such display line is given,
                                     and the asked slots, starts and sizes are all 0 */
     MIRROR_WEIGHT_OUTSIDE = 9,   /* a weight in any slot of the set is not finite, the precision found is below 4, or a rounded weight in
                                     use leaves its integer type */
-    MIRROR_DOES_NOT_FIT = 10,    /* list lengths, a column range or a window do not fit (at each function) */
+    MIRROR_DOES_NOT_FIT = 10,    /* list lengths, a column range, a window or an excess do not fit (at each function) */
     MIRROR_NO_ROOM = 11,         /* sheet room too small */
     MIRROR_SAMPLE_OUTSIDE = 12,  /* f32 pass: a sample in use or weight in use not finite, or a weight above 2^64 in size */
     MIRROR_NOT_A_SHEET = 13,     /* a text that is not of a sheet's form; the byte where its longest acceptable beginning ends is given */
@@ -77,31 +77,35 @@ uint32_t mirror_weights(uint32_t image_width, uint32_t image_height, double left
                         double *weights, size_t weights_len, uint32_t *starts, size_t starts_len, uint32_t *sizes, size_t sizes_len,
                         uint32_t *window, uint32_t *line);
 
-/* The weights of a set as integers of 2^-precision. lines: camera lines; starts_len: display lines. 0, 1, 7, 9, 10.
+/* The weights of a set as integers of 2^-precision, and each window's excess: the total of its weights in use less 2^precision.
+ * lines: camera lines; starts_len: display lines. 0, 1, 7, 9, 10.
  * No. 10: a window size outside 1 to 32,769; a window of size 0, larger than the window size or past the last line; weight slots not
- * windows x window size; starts and sizes of different counts. No. 7: out_len below windows x window size. */
+ * windows x window size; starts and sizes of different counts. No. 7: out_len below windows x window size, or excesses_len below windows. */
 uint32_t mirror_normalize16(uint32_t lines, uint32_t window,
                             const double *weights, size_t weights_len, const uint32_t *starts, size_t starts_len,
-                            const uint32_t *sizes, size_t sizes_len, int16_t *out, size_t out_len, uint32_t *precision);
+                            const uint32_t *sizes, size_t sizes_len, int16_t *out, size_t out_len,
+                            int64_t *excesses, size_t excesses_len, uint32_t *precision);
 uint32_t mirror_normalize32(uint32_t lines, uint32_t window,
                             const double *weights, size_t weights_len, const uint32_t *starts, size_t starts_len,
-                            const uint32_t *sizes, size_t sizes_len, int32_t *out, size_t out_len, uint32_t *precision);
+                            const uint32_t *sizes, size_t sizes_len, int32_t *out, size_t out_len,
+                            int64_t *excesses, size_t excesses_len, uint32_t *precision);
 
 /* A sum already shifted, clipped to 0..255. */
 uint8_t mirror_clip8(int32_t value);
 
 /* The vertical passes over columns first .. first + count - 1 of rows of `row` samples; out has count samples for each window. 0, 1, 10,
  * for u8 9, and for f32 12. No. 10: as for a normaliser; a source length that is not lines x row; first + count past the row; an output
- * length that is not windows x count; a precision outside 4 to 45, for u8 4 to 21. No. 9, after 10: 255 times the sizes of a window's
- * weights in use, and 2^(precision - 1), pass 2^31 - 1. *infinite is how many of the samples that the call wrote are infinite. */
+ * length that is not windows x count; for u16 and u8 a precision outside 4 to 45, for u8 4 to 21, an excess that is not its window's, or
+ * not one for each window. No. 9, after 10: 255 times the sizes of a window's weights in use, and 2^(precision - 1), pass 2^31 - 1.
+ * *infinite is how many of the samples that the call wrote are infinite. */
 uint32_t mirror_vertical_u16(const uint16_t *src, size_t src_len, uint32_t lines, uint32_t row, uint32_t first, uint32_t count,
                              const int32_t *weights, size_t weights_len, const uint32_t *starts, size_t starts_len,
-                             const uint32_t *sizes, size_t sizes_len, uint32_t window, uint32_t precision,
-                             uint16_t *out, size_t out_len);
+                             const uint32_t *sizes, size_t sizes_len, const int64_t *excesses, size_t excesses_len,
+                             uint32_t window, uint32_t precision, uint16_t *out, size_t out_len);
 uint32_t mirror_vertical_u8(const uint8_t *src, size_t src_len, uint32_t lines, uint32_t row, uint32_t first, uint32_t count,
                             const int16_t *weights, size_t weights_len, const uint32_t *starts, size_t starts_len,
-                            const uint32_t *sizes, size_t sizes_len, uint32_t window, uint32_t precision,
-                            uint8_t *out, size_t out_len);
+                            const uint32_t *sizes, size_t sizes_len, const int64_t *excesses, size_t excesses_len,
+                            uint32_t window, uint32_t precision, uint8_t *out, size_t out_len);
 uint32_t mirror_vertical_f32(const float *src, size_t src_len, uint32_t lines, uint32_t row, uint32_t first, uint32_t count,
                              const double *weights, size_t weights_len, const uint32_t *starts, size_t starts_len,
                              const uint32_t *sizes, size_t sizes_len, uint32_t window,
@@ -120,26 +124,30 @@ uint32_t mirror_divide_u16x4(const uint16_t *src, size_t src_len, uint16_t *dst,
 uint32_t mirror_divide_u16x4_inplace(uint16_t *pixels, size_t len);
 
 /* The sheet of a set of the 16-bit or the 32-bit store, into text; written is its bytes. 0, 1, 10, 11, 100. No. 10: as for a normaliser,
- * and a precision outside 4 to 21 or 4 to 45. */
+ * a precision outside 4 to 21 or 4 to 45, and excesses as for a pass. */
 uint32_t mirror_sheet16(uint32_t filter, uint32_t lines, uint32_t window, uint32_t precision,
                         const int16_t *weights, size_t weights_len, const uint32_t *starts, size_t starts_len,
-                        const uint32_t *sizes, size_t sizes_len, uint8_t *text, size_t text_len, uint64_t *written);
+                        const uint32_t *sizes, size_t sizes_len, const int64_t *excesses, size_t excesses_len,
+                        uint8_t *text, size_t text_len, uint64_t *written);
 uint32_t mirror_sheet32(uint32_t filter, uint32_t lines, uint32_t window, uint32_t precision,
                         const int32_t *weights, size_t weights_len, const uint32_t *starts, size_t starts_len,
-                        const uint32_t *sizes, size_t sizes_len, uint8_t *text, size_t text_len, uint64_t *written);
+                        const uint32_t *sizes, size_t sizes_len, const int64_t *excesses, size_t excesses_len,
+                        uint8_t *text, size_t text_len, uint64_t *written);
 
-/* The set of a sheet's text in the three lists, and what its head says beside the answer: the filter's code, camera lines, display lines
+/* The set of a sheet's text in the four lists, and what its head says beside the answer: the filter's code, camera lines, display lines
  * (windows), window size, bits of the store, precision. mirror_read_sheet takes sheets of both stores, mirror_read_sheet16 those of the
  * 16-bit store alone. Exactly the texts that the writers write for a set that the u16 pass takes are accepted, byte for byte; slots past a
  * window's size become 0. The whole text is judged before anything is written. 0, 7, 13. No. 7: the kind line and the three size lines
- * are right, and fewer than windows x window size slots, or than windows starts or sizes, are lent. No. 13: byte is how many bytes of the
+ * are right, and fewer than windows x window size slots, or than windows starts, sizes or excesses, are lent. No. 13: byte is how many bytes of the
  * text begin some sheet. */
 uint32_t mirror_read_sheet(const uint8_t *text, size_t text_len, int32_t *weights, size_t weights_len,
-                           uint32_t *starts, size_t starts_len, uint32_t *sizes, size_t sizes_len, uint32_t *filter, uint32_t *lines,
-                           uint32_t *windows, uint32_t *window, uint32_t *store, uint32_t *precision, uint64_t *byte);
+                           uint32_t *starts, size_t starts_len, uint32_t *sizes, size_t sizes_len,
+                           int64_t *excesses, size_t excesses_len, uint32_t *filter, uint32_t *lines, uint32_t *windows,
+                           uint32_t *window, uint32_t *store, uint32_t *precision, uint64_t *byte);
 uint32_t mirror_read_sheet16(const uint8_t *text, size_t text_len, int16_t *weights, size_t weights_len,
-                             uint32_t *starts, size_t starts_len, uint32_t *sizes, size_t sizes_len, uint32_t *filter, uint32_t *lines,
-                             uint32_t *windows, uint32_t *window, uint32_t *store, uint32_t *precision, uint64_t *byte);
+                             uint32_t *starts, size_t starts_len, uint32_t *sizes, size_t sizes_len,
+                             int64_t *excesses, size_t excesses_len, uint32_t *filter, uint32_t *lines, uint32_t *windows,
+                             uint32_t *window, uint32_t *store, uint32_t *precision, uint64_t *byte);
 
 #ifdef __cplusplus
 }

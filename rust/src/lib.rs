@@ -20,7 +20,7 @@ pub use numbers::{abs, ceil, clip8, filter, floor, narrow, round, widen, Filter,
 pub use passes::{vertical_f32, vertical_u16, vertical_u8, Frame};
 pub use readers::{read_sheet, read_sheet16, Head};
 pub use refusal::Refusal;
-pub use sets::{normalize16, normalize32, weights, Axis, Request, Set};
+pub use sets::{normalize16, normalize32, weights, Axis, Request, Set, Stored};
 pub use sheets::{sheet16, sheet32};
 
 /// The number of a line of the camera's image, from 0.

@@ -1,6 +1,6 @@
 use crate::raw;
 use crate::refusal::{judged, Refusal};
-use crate::sets::Set;
+use crate::sets::{Set, Stored};
 
 /// Camera lines of `row` samples one after the other, and the range of columns that is asked for.
 #[derive(Clone, Copy, Debug)]
@@ -12,24 +12,28 @@ pub struct Frame<'a, S> {
 }
 
 /// The value of every window at every column of the range: `count` samples of `out` for each window.
-pub fn vertical_u16(frame: &Frame<u16>, set: &Set<i32>, precision: u32, out: &mut [u16]) -> Result<(), Refusal> {
+pub fn vertical_u16(frame: &Frame<u16>, stored: &Stored<i32>, out: &mut [u16]) -> Result<(), Refusal> {
+    let set = &stored.set;
     let number = unsafe {
         raw::mirror_vertical_u16(
             frame.samples.as_ptr(), frame.samples.len(), set.lines, frame.row, frame.first, frame.count,
             set.weights.as_ptr(), set.weights.len(), set.starts(), set.starts.len(),
-            set.sizes.as_ptr(), set.sizes.len(), set.window, precision, out.as_mut_ptr(), out.len(),
+            set.sizes.as_ptr(), set.sizes.len(), stored.excesses.as_ptr(), stored.excesses.len(),
+            set.window, stored.precision, out.as_mut_ptr(), out.len(),
         )
     };
     judged(number, 0)
 }
 
 /// The same of u8 samples, with weights of the 16-bit store: `WeightOutside` where a window's sums could leave 32 bits.
-pub fn vertical_u8(frame: &Frame<u8>, set: &Set<i16>, precision: u32, out: &mut [u8]) -> Result<(), Refusal> {
+pub fn vertical_u8(frame: &Frame<u8>, stored: &Stored<i16>, out: &mut [u8]) -> Result<(), Refusal> {
+    let set = &stored.set;
     let number = unsafe {
         raw::mirror_vertical_u8(
             frame.samples.as_ptr(), frame.samples.len(), set.lines, frame.row, frame.first, frame.count,
             set.weights.as_ptr(), set.weights.len(), set.starts(), set.starts.len(),
-            set.sizes.as_ptr(), set.sizes.len(), set.window, precision, out.as_mut_ptr(), out.len(),
+            set.sizes.as_ptr(), set.sizes.len(), stored.excesses.as_ptr(), stored.excesses.len(),
+            set.window, stored.precision, out.as_mut_ptr(), out.len(),
         )
     };
     judged(number, 0)

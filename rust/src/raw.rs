@@ -28,11 +28,11 @@ extern "C" {
 
     pub fn mirror_normalize16(
         lines: u32, window: u32, weights: *const f64, weights_len: usize, starts: *const u32, starts_len: usize,
-        sizes: *const u32, sizes_len: usize, out: *mut i16, out_len: usize, precision: *mut u32,
+        sizes: *const u32, sizes_len: usize, out: *mut i16, out_len: usize, excesses: *mut i64, excesses_len: usize, precision: *mut u32,
     ) -> u32;
     pub fn mirror_normalize32(
         lines: u32, window: u32, weights: *const f64, weights_len: usize, starts: *const u32, starts_len: usize,
-        sizes: *const u32, sizes_len: usize, out: *mut i32, out_len: usize, precision: *mut u32,
+        sizes: *const u32, sizes_len: usize, out: *mut i32, out_len: usize, excesses: *mut i64, excesses_len: usize, precision: *mut u32,
     ) -> u32;
 
     pub fn mirror_clip8(value: i32) -> u8;
@@ -40,12 +40,12 @@ extern "C" {
     pub fn mirror_vertical_u16(
         src: *const u16, src_len: usize, lines: u32, row: u32, first: u32, count: u32,
         weights: *const i32, weights_len: usize, starts: *const u32, starts_len: usize,
-        sizes: *const u32, sizes_len: usize, window: u32, precision: u32, out: *mut u16, out_len: usize,
+        sizes: *const u32, sizes_len: usize, excesses: *const i64, excesses_len: usize, window: u32, precision: u32, out: *mut u16, out_len: usize,
     ) -> u32;
     pub fn mirror_vertical_u8(
         src: *const u8, src_len: usize, lines: u32, row: u32, first: u32, count: u32,
         weights: *const i16, weights_len: usize, starts: *const u32, starts_len: usize,
-        sizes: *const u32, sizes_len: usize, window: u32, precision: u32, out: *mut u8, out_len: usize,
+        sizes: *const u32, sizes_len: usize, excesses: *const i64, excesses_len: usize, window: u32, precision: u32, out: *mut u8, out_len: usize,
     ) -> u32;
     pub fn mirror_vertical_f32(
         src: *const f32, src_len: usize, lines: u32, row: u32, first: u32, count: u32,
@@ -65,19 +65,19 @@ extern "C" {
 
     pub fn mirror_sheet16(
         filter: u32, lines: u32, window: u32, precision: u32, weights: *const i16, weights_len: usize, starts: *const u32, starts_len: usize,
-        sizes: *const u32, sizes_len: usize, text: *mut u8, text_len: usize, written: *mut u64,
+        sizes: *const u32, sizes_len: usize, excesses: *const i64, excesses_len: usize, text: *mut u8, text_len: usize, written: *mut u64,
     ) -> u32;
     pub fn mirror_sheet32(
         filter: u32, lines: u32, window: u32, precision: u32, weights: *const i32, weights_len: usize, starts: *const u32, starts_len: usize,
-        sizes: *const u32, sizes_len: usize, text: *mut u8, text_len: usize, written: *mut u64,
+        sizes: *const u32, sizes_len: usize, excesses: *const i64, excesses_len: usize, text: *mut u8, text_len: usize, written: *mut u64,
     ) -> u32;
 
     pub fn mirror_read_sheet(
         text: *const u8, text_len: usize, weights: *mut i32, weights_len: usize, starts: *mut u32, starts_len: usize, sizes: *mut u32, sizes_len: usize,
-        filter: *mut u32, lines: *mut u32, windows: *mut u32, window: *mut u32, store: *mut u32, precision: *mut u32, byte: *mut u64,
+        excesses: *mut i64, excesses_len: usize, filter: *mut u32, lines: *mut u32, windows: *mut u32, window: *mut u32, store: *mut u32, precision: *mut u32, byte: *mut u64,
     ) -> u32;
     pub fn mirror_read_sheet16(
         text: *const u8, text_len: usize, weights: *mut i16, weights_len: usize, starts: *mut u32, starts_len: usize, sizes: *mut u32, sizes_len: usize,
-        filter: *mut u32, lines: *mut u32, windows: *mut u32, window: *mut u32, store: *mut u32, precision: *mut u32, byte: *mut u64,
+        excesses: *mut i64, excesses_len: usize, filter: *mut u32, lines: *mut u32, windows: *mut u32, window: *mut u32, store: *mut u32, precision: *mut u32, byte: *mut u64,
     ) -> u32;
 }

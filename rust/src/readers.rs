@@ -9,7 +9,7 @@ pub struct Head {
     pub filter: Filter,
     /// camera lines
     pub lines: u32,
-    /// display lines: so many starts and sizes, and `window` slots of weights for each
+    /// display lines: so many starts, sizes and excesses, and `window` slots of weights for each
     pub windows: u32,
     pub window: u32,
     /// 16 or 32 bits
@@ -39,25 +39,25 @@ impl Told {
     }
 }
 
-/// The set of a sheet of either store in the three lists, which may be longer than needed; what its head says.
-pub fn read_sheet(text: &[u8], weights: &mut [i32], starts: &mut [CameraLine], sizes: &mut [u32]) -> Result<Head, Refusal> {
+/// The set of a sheet of either store in the four lists, which may be longer than needed; what its head says.
+pub fn read_sheet(text: &[u8], weights: &mut [i32], starts: &mut [CameraLine], sizes: &mut [u32], excesses: &mut [i64]) -> Result<Head, Refusal> {
     let mut h = Told::default();
     let number = unsafe {
         raw::mirror_read_sheet(
             text.as_ptr(), text.len(), weights.as_mut_ptr(), weights.len(), starts.as_mut_ptr().cast(), starts.len(), sizes.as_mut_ptr(), sizes.len(),
-            &mut h.filter, &mut h.lines, &mut h.windows, &mut h.window, &mut h.store, &mut h.precision, &mut h.byte,
+            excesses.as_mut_ptr(), excesses.len(), &mut h.filter, &mut h.lines, &mut h.windows, &mut h.window, &mut h.store, &mut h.precision, &mut h.byte,
         )
     };
     h.judged(number)
 }
 
 /// The same of the 16-bit store alone.
-pub fn read_sheet16(text: &[u8], weights: &mut [i16], starts: &mut [CameraLine], sizes: &mut [u32]) -> Result<Head, Refusal> {
+pub fn read_sheet16(text: &[u8], weights: &mut [i16], starts: &mut [CameraLine], sizes: &mut [u32], excesses: &mut [i64]) -> Result<Head, Refusal> {
     let mut h = Told::default();
     let number = unsafe {
         raw::mirror_read_sheet16(
             text.as_ptr(), text.len(), weights.as_mut_ptr(), weights.len(), starts.as_mut_ptr().cast(), starts.len(), sizes.as_mut_ptr(), sizes.len(),
-            &mut h.filter, &mut h.lines, &mut h.windows, &mut h.window, &mut h.store, &mut h.precision, &mut h.byte,
+            excesses.as_mut_ptr(), excesses.len(), &mut h.filter, &mut h.lines, &mut h.windows, &mut h.window, &mut h.store, &mut h.precision, &mut h.byte,
         )
     };
     h.judged(number)

@@ -41,6 +41,15 @@ impl<W> Set<'_, W> {
     }
 }
 
+/// A set as a store holds it: integer weights, the precision that they all have, and each window's excess, the total of its weights in
+/// use less 2^precision.
+#[derive(Clone, Copy, Debug)]
+pub struct Stored<'a, W> {
+    pub set: Set<'a, W>,
+    pub precision: u32,
+    pub excesses: &'a [i64],
+}
+
 /// The set of a request in the three lists, which may be longer than needed; its window size.
 pub fn weights(request: &Request, weights: &mut [f64], starts: &mut [CameraLine], sizes: &mut [u32]) -> Result<u32, Refusal> {
     let (q, b) = (request, &request.crop);
@@ -56,25 +65,25 @@ pub fn weights(request: &Request, weights: &mut [f64], starts: &mut [CameraLine]
     judged(number, line).map(|()| window)
 }
 
-/// The weights as integers of the 16-bit store, in the first slots of `out`; their precision.
-pub fn normalize16(set: &Set<f64>, out: &mut [i16]) -> Result<u32, Refusal> {
+/// The weights as integers of the 16-bit store, in the first slots of `out`, and each window's excess; their precision.
+pub fn normalize16(set: &Set<f64>, out: &mut [i16], excesses: &mut [i64]) -> Result<u32, Refusal> {
     let mut precision = 0;
     let number = unsafe {
         raw::mirror_normalize16(
             set.lines, set.window, set.weights.as_ptr(), set.weights.len(), set.starts(), set.starts.len(),
-            set.sizes.as_ptr(), set.sizes.len(), out.as_mut_ptr(), out.len(), &mut precision,
+            set.sizes.as_ptr(), set.sizes.len(), out.as_mut_ptr(), out.len(), excesses.as_mut_ptr(), excesses.len(), &mut precision,
         )
     };
     judged(number, 0).map(|()| precision)
 }
 
 /// The same in the 32-bit store.
-pub fn normalize32(set: &Set<f64>, out: &mut [i32]) -> Result<u32, Refusal> {
+pub fn normalize32(set: &Set<f64>, out: &mut [i32], excesses: &mut [i64]) -> Result<u32, Refusal> {
     let mut precision = 0;
     let number = unsafe {
         raw::mirror_normalize32(
             set.lines, set.window, set.weights.as_ptr(), set.weights.len(), set.starts(), set.starts.len(),
-            set.sizes.as_ptr(), set.sizes.len(), out.as_mut_ptr(), out.len(), &mut precision,
+            set.sizes.as_ptr(), set.sizes.len(), out.as_mut_ptr(), out.len(), excesses.as_mut_ptr(), excesses.len(), &mut precision,
         )
     };
     judged(number, 0).map(|()| precision)

@@ -9,6 +9,10 @@ fn set<'a, W>(lines: u32, weights: &'a [W], sizes: &'a [u32]) -> Set<'a, W> {
     Set { lines, window: weights.len() as u32, weights, starts: &[CameraLine(0)], sizes }
 }
 
+fn stored<'a, W>(set: Set<'a, W>, precision: u32, excesses: &'a [i64]) -> Stored<'a, W> {
+    Stored { set, precision, excesses }
+}
+
 #[test]
 fn helpers_round_as_rows_13_and_14() {
     assert_eq!([round(2.5), round(-2.5), round(-0.5)], [3.0, -3.0, -1.0]);
@@ -55,9 +59,9 @@ fn the_sheets_set_is_built_and_its_spare_slots_kept() {
     assert_eq!(slots, [0.5, 0.5, 0.0, 0.5, 0.5, 0.0, 7.0]);
     assert_eq!((starts, sizes), ([CameraLine(0), CameraLine(2), CameraLine(7)], [2, 2, 7]));
     let built = Set { lines: 4, window: 3, weights: &slots[..6], starts: &starts[..2], sizes: &sizes[..2] };
-    let mut integers = [7; 6];
-    assert_eq!(normalize32(&built, &mut integers), Ok(31));
-    assert_eq!(integers, [1 << 30, 1 << 30, 0, 1 << 30, 1 << 30, 0]);
+    let (mut integers, mut excesses) = ([7; 6], [7; 3]);
+    assert_eq!(normalize32(&built, &mut integers, &mut excesses), Ok(31));
+    assert_eq!((integers, excesses), ([1 << 30, 1 << 30, 0, 1 << 30, 1 << 30, 0], [0, 0, 7]));
 }
 
 #[test]
@@ -87,14 +91,16 @@ fn a_refused_request_writes_nothing() {
 
 #[test]
 fn normalisers_give_rows_7_to_9() {
-    let mut out = [7; 4];
-    assert_eq!(normalize16(&set(1, &[1.0], &[1]), &mut out), Ok(14));
-    assert_eq!(out, [16384, 7, 7, 7]);
-    assert_eq!(normalize16(&set(3, &[1.0 / 3.0; 3], &[3]), &mut out), Ok(16));
-    assert_eq!(out, [21845, 21845, 21845, 7]);
-    assert_eq!(normalize16(&set(1, &[f64::NAN], &[1]), &mut out), Err(Refusal::WeightOutside));
-    assert_eq!(normalize16(&set(1, &[1.0], &[1]), &mut []), Err(Refusal::TooFewSlots));
-    assert_eq!(normalize32(&set(1, &[1.0], &[2]), &mut [0]), Err(Refusal::DoesNotFit));
+    let (mut out, mut over) = ([7; 4], [7; 2]);
+    assert_eq!(normalize16(&set(1, &[1.0], &[1]), &mut out, &mut over), Ok(14));
+    assert_eq!((out, over), ([16384, 7, 7, 7], [0, 7]));
+    assert_eq!(normalize16(&set(3, &[1.0 / 3.0; 3], &[3]), &mut out, &mut over), Ok(16));
+    assert_eq!((out, over), ([21845, 21845, 21845, 7], [-1, 7]));
+    assert_eq!(normalize16(&set(1, &[f64::NAN], &[1]), &mut out, &mut over), Err(Refusal::WeightOutside));
+    assert_eq!(normalize16(&set(1, &[1.0], &[1]), &mut [], &mut over), Err(Refusal::TooFewSlots));
+    assert_eq!(normalize16(&set(1, &[1.0], &[1]), &mut out, &mut []), Err(Refusal::TooFewSlots));
+    assert_eq!(normalize32(&set(1, &[1.0], &[2]), &mut [0], &mut over), Err(Refusal::DoesNotFit));
+    assert_eq!((out, over), ([21845, 21845, 21845, 7], [-1, 7]));
 }
 
 #[test]
@@ -102,12 +108,18 @@ fn passes_give_rows_10_to_12() {
     let column = |weights: &[i32], samples: &[u16]| {
         let (lines, mut out) = (samples.len() as u32, [7]);
         let frame = Frame { samples, row: 1, first: 0, count: 1 };
-        vertical_u16(&frame, &set(lines, weights, &[lines]), 4, &mut out).map(|()| out[0])
+        let over = [weights.iter().map(|&w| w as i64).sum::<i64>() - 16];
+        vertical_u16(&frame, &stored(set(lines, weights, &[lines]), 4, &over), &mut out).map(|()| out[0])
     };
     assert_eq!(column(&[-4, 24, -4], &[100, 200, 100]), Ok(250));
     assert_eq!((column(&[-4, 24, -4], &[65535, 0, 65535]), column(&[-4, 24, -4], &[0, 65535, 0])), (Ok(0), Ok(65535)));
     assert_eq!((column(&[8, 8], &[1, 0]), column(&[8, 8], &[0, 1]), column(&[8, 8], &[1, 1])), (Ok(1), Ok(1), Ok(1)));
     assert_eq!(column(&[8], &[1, 1]), Err(Refusal::DoesNotFit));
+    let wrong = |excesses: &[i64]| {
+        let frame = Frame { samples: &[1, 0], row: 1, first: 0, count: 1 };
+        vertical_u16(&frame, &stored(set(2, &[8, 8], &[2]), 4, excesses), &mut [7])
+    };
+    assert_eq!((wrong(&[0]), wrong(&[1]), wrong(&[]), wrong(&[0, 0])), (Ok(()), Err(Refusal::DoesNotFit), Err(Refusal::DoesNotFit), Err(Refusal::DoesNotFit)));
 
     let frame = |samples| Frame { samples, row: 2, first: 1, count: 1 };
     let mut out = [7.0];
@@ -124,7 +136,8 @@ fn the_byte_pass_clips_and_judges_its_weights() {
     let column = |weights: &[i16], samples: &[u8], precision| {
         let (lines, mut out) = (samples.len() as u32, [7]);
         let frame = Frame { samples, row: 1, first: 0, count: 1 };
-        vertical_u8(&frame, &set(lines, weights, &[lines]), precision, &mut out).map(|()| out[0])
+        let over = [weights.iter().map(|&w| w as i64).sum::<i64>() - (1i64 << precision)];
+        vertical_u8(&frame, &stored(set(lines, weights, &[lines]), precision, &over), &mut out).map(|()| out[0])
     };
     assert_eq!(column(&[-4, 24, -4], &[100, 200, 100], 4), Ok(250));
     assert_eq!((column(&[-4, 24, -4], &[255, 0, 255], 4), column(&[-4, 24, -4], &[0, 255, 0], 4)), (Ok(0), Ok(255)));
@@ -164,54 +177,60 @@ fn alpha_of_16_bits() {
     assert_eq!((divide_alpha16_inplace(&mut pixels[..3]), divide_alpha16_inplace(&mut [])), (Err(Refusal::DoesNotFit), Ok(())));
 }
 
-const SHEET: &[u8] = b"kind=box\nin=4\nout=2\nwindow=3\nstore=32\nprecision=31\nw0=0,2:1073741824,1073741824\nw1=2,2:1073741824,1073741824\n";
+const SHEET: &[u8] = b"kind=box\nin=4\nout=2\nwindow=3\nstore=32\nprecision=31\nw0=0,2:1073741824,1073741824\nw1=2,2:1073741824,1073741824\nexcess=0,0\n";
+const SMALL: &[u8] = b"kind=mitchell\nin=1\nout=1\nwindow=1\nstore=16\nprecision=4\nw0=0,1:-5\nexcess=-21\n";
 
 #[test]
 fn the_sheet_is_document_01s() {
     let half = 1 << 30;
     let (weights, starts, sizes) = ([half, half, 0, half, half, 0], [CameraLine(0), CameraLine(2)], [2, 2]);
     let set32 = Set { lines: 4, window: 3, weights: &weights, starts: &starts, sizes: &sizes };
+    let (right, wrong) = (stored(set32, 31, &[0, 0]), stored(set32, 31, &[0, 1]));
     let mut text = [7; SHEET.len() + 1];
-    assert_eq!(sheet32(Filter::Box, &set32, 31, &mut text[..SHEET.len() - 1]), Err(Refusal::NoRoom));
+    assert_eq!(sheet32(Filter::Box, &right, &mut text[..SHEET.len() - 1]), Err(Refusal::NoRoom));
+    assert_eq!(sheet32(Filter::Box, &wrong, &mut text), Err(Refusal::DoesNotFit));
     assert_eq!(text, [7; SHEET.len() + 1]);
-    assert_eq!(sheet32(Filter::Box, &set32, 31, &mut text), Ok(SHEET.len() as u64));
+    assert_eq!(sheet32(Filter::Box, &right, &mut text), Ok(SHEET.len() as u64));
     assert_eq!((&text[..SHEET.len()], text[SHEET.len()]), (SHEET, 7));
-    assert_eq!(sheet16(Filter::Mitchell, &set(1, &[-5], &[1]), 4, &mut text), Ok(65));
-    assert!(text.starts_with(b"kind=mitchell\nin=1\nout=1\nwindow=1\nstore=16\nprecision=4\nw0=0,1:-5\n"));
-    assert_eq!(sheet16(Filter::Box, &set(1, &[-5], &[1]), 22, &mut text), Err(Refusal::DoesNotFit));
+    assert_eq!(sheet16(Filter::Mitchell, &stored(set(1, &[-5], &[1]), 4, &[-21]), &mut text), Ok(SMALL.len() as u64));
+    assert!(text.starts_with(SMALL));
+    assert_eq!(sheet16(Filter::Box, &stored(set(1, &[-5], &[1]), 22, &[-5 - (1 << 22)]), &mut text), Err(Refusal::DoesNotFit));
 }
 
 #[test]
 fn a_sheet_is_read_back_and_written_again() {
     let half = 1 << 30;
-    let (mut slots, mut starts, mut sizes) = ([7; 7], [CameraLine(7); 3], [7; 3]);
+    let (mut slots, mut starts, mut sizes, mut excesses) = ([7; 7], [CameraLine(7); 3], [7; 3], [7; 3]);
     let head = Head { filter: Filter::Box, lines: 4, windows: 2, window: 3, store: 32, precision: 31 };
-    assert_eq!(read_sheet(SHEET, &mut slots, &mut starts, &mut sizes), Ok(head));
+    assert_eq!(read_sheet(SHEET, &mut slots, &mut starts, &mut sizes, &mut excesses), Ok(head));
     assert_eq!((slots, starts, sizes), ([half, half, 0, half, half, 0, 7], [CameraLine(0), CameraLine(2), CameraLine(7)], [2, 2, 7]));
+    assert_eq!(excesses, [0, 0, 7]);
     let set32 = Set { lines: head.lines, window: head.window, weights: &slots[..6], starts: &starts[..2], sizes: &sizes[..2] };
     let mut text = [7; SHEET.len()];
-    assert_eq!(sheet32(head.filter, &set32, head.precision, &mut text), Ok(SHEET.len() as u64));
+    assert_eq!(sheet32(head.filter, &stored(set32, head.precision, &excesses[..2]), &mut text), Ok(SHEET.len() as u64));
     assert_eq!(text, SHEET);
 
-    let (mut narrow, mut one, mut size) = ([7i16; 1], [CameraLine(7)], [7]);
-    let small = b"kind=mitchell\nin=1\nout=1\nwindow=1\nstore=16\nprecision=4\nw0=0,1:-5\n";
+    let (mut narrow, mut one, mut size, mut over) = ([7i16; 1], [CameraLine(7)], [7], [7]);
     let head16 = Head { filter: Filter::Mitchell, lines: 1, windows: 1, window: 1, store: 16, precision: 4 };
-    assert_eq!(read_sheet16(small, &mut narrow, &mut one, &mut size), Ok(head16));
-    assert_eq!((narrow, one, size), ([-5], [CameraLine(0)], [1]));
+    assert_eq!(read_sheet16(SMALL, &mut narrow, &mut one, &mut size, &mut over), Ok(head16));
+    assert_eq!((narrow, one, size, over), ([-5], [CameraLine(0)], [1], [-21]));
 }
 
 #[test]
 fn a_text_that_is_no_sheet_is_refused_at_its_byte() {
-    let (mut slots, mut starts, mut sizes) = ([7; 6], [CameraLine(7); 2], [7; 2]);
+    let (mut slots, mut starts, mut sizes, mut excesses) = ([7; 6], [CameraLine(7); 2], [7; 2], [7; 2]);
     let mut read = |text: &[u8]| {
-        let answer = read_sheet(text, &mut slots, &mut starts, &mut sizes);
-        assert_eq!((slots, starts, sizes), ([7; 6], [CameraLine(7); 2], [7; 2]));
+        let answer = read_sheet(text, &mut slots, &mut starts, &mut sizes, &mut excesses);
+        assert_eq!((slots, starts, sizes, excesses), ([7; 6], [CameraLine(7); 2], [7; 2], [7; 2]));
         answer
     };
+    let line = SHEET.len() - b"excess=0,0\n".len();
     assert_eq!(read(b""), Err(Refusal::NotASheet(0)));
     assert_eq!(read(&SHEET[..SHEET.len() - 1]), Err(Refusal::NotASheet(SHEET.len() as u64 - 1)));
+    assert_eq!(read(&SHEET[..line]), Err(Refusal::NotASheet(line as u64)));
+    assert_eq!(read(&[&SHEET[..line], b"excess=0,1\n"].concat()), Err(Refusal::NotASheet(line as u64 + 9)));
     assert_eq!(read(b"kind=box\nin=04\n"), Err(Refusal::NotASheet(12)));
     assert_eq!(read(b"kind=box\nin=4\nout=3\nwindow=3\n"), Err(Refusal::TooFewSlots));
     assert_eq!(read(b"kind=box\nin=4\nout=3\nwindow=3"), Err(Refusal::NotASheet(28)));
-    assert_eq!(read_sheet16(SHEET, &mut [7; 6], &mut starts, &mut sizes).map_err(Refusal::number), Err(13));
+    assert_eq!(read_sheet16(SHEET, &mut [7; 6], &mut starts, &mut sizes, &mut excesses).map_err(Refusal::number), Err(13));
 }

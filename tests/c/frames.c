@@ -4,12 +4,13 @@
 #include "check.h"
 
 static const uint32_t nought[] = {0}, ones[] = {1}, twos[] = {2}, threes[] = {3};
+static const int64_t even[] = {0, 0}, odd[] = {1}; /* the excess of every window here but the heavy ones is 0 */
 
 /* One column of a window with precision 4. */
 static int column16(const int32_t *weights, const uint32_t *size, const uint16_t *samples)
 {
     LENT(uint16_t, out, 1);
-    uint32_t n = *size, no = mirror_vertical_u16(samples, n, n, 1, 0, 1, weights, n, nought, 1, size, 1, n, 4, LIST(out));
+    uint32_t n = *size, no = mirror_vertical_u16(samples, n, n, 1, 0, 1, weights, n, nought, 1, size, 1, even, 1, n, 4, LIST(out));
     CHECK(no == MIRROR_DONE && KEPT_FROM(out, 1));
     return out.at[0];
 }
@@ -26,12 +27,12 @@ static void check_u16(void)
     /* a range of columns gives those columns of the whole */
     LENT(uint16_t, whole, 3);
     LENT(uint16_t, part, 2);
-    CHECK(mirror_vertical_u16(frame, 6, 2, 3, 0, 3, halves, 2, nought, 1, twos, 1, 2, 4, LIST(whole)) == MIRROR_DONE);
-    CHECK(mirror_vertical_u16(frame, 6, 2, 3, 1, 2, halves, 2, nought, 1, twos, 1, 2, 4, LIST(part)) == MIRROR_DONE);
+    CHECK(mirror_vertical_u16(frame, 6, 2, 3, 0, 3, halves, 2, nought, 1, twos, 1, even, 1, 2, 4, LIST(whole)) == MIRROR_DONE);
+    CHECK(mirror_vertical_u16(frame, 6, 2, 3, 1, 2, halves, 2, nought, 1, twos, 1, even, 1, 2, 4, LIST(part)) == MIRROR_DONE);
     CHECK(whole.at[0] == 3 && whole.at[1] == 4 && whole.at[2] == 5 && part.at[0] == 4 && part.at[1] == 5 && KEPT_FROM(whole, 3) && KEPT_FROM(part, 2));
     memset(&part, FILL, sizeof part);
 #define REFUSED16(number, src, lines, row, first, count, slots, starts, sizes, window, precision, room)                                            \
-    CHECK(mirror_vertical_u16(frame, src, lines, row, first, count, halves, slots, starts, 1, sizes, 1, window, precision, part.at, room) == (number) && \
+    CHECK(mirror_vertical_u16(frame, src, lines, row, first, count, halves, slots, starts, 1, sizes, 1, even, 1, window, precision, part.at, room) == (number) && \
           UNCHANGED(part))
     REFUSED16(MIRROR_DONE, 6, 2, 3, 3, 0, 2, nought, twos, 2, 4, 0);
     REFUSED16(MIRROR_BAD_SIDE, 6, 0, 3, 0, 2, 2, nought, twos, 2, 4, 2);
@@ -45,6 +46,9 @@ static void check_u16(void)
     REFUSED16(MIRROR_DOES_NOT_FIT, 6, 2, 3, 0, 2, 1, nought, twos, 2, 4, 2);
     REFUSED16(MIRROR_DOES_NOT_FIT, 6, 2, 3, 0, 2, 2, nought, twos, 2, 3, 2);
     REFUSED16(MIRROR_DOES_NOT_FIT, 6, 2, 3, 0, 2, 2, nought, twos, 2, 46, 2);
+    /* a wrong excess, none, and one too many */
+#define EXCESS16(excesses, n) mirror_vertical_u16(frame, 6, 2, 3, 0, 2, halves, 2, nought, 1, twos, 1, excesses, n, 2, 4, LIST(part))
+    CHECK(EXCESS16(odd, 1) == MIRROR_DOES_NOT_FIT && EXCESS16(even, 0) == MIRROR_DOES_NOT_FIT && EXCESS16(even, 2) == MIRROR_DOES_NOT_FIT && UNCHANGED(part));
 }
 
 static void check_u8(void)
@@ -52,17 +56,17 @@ static void check_u8(void)
     static const int16_t sharp[] = {-4, 24, -4}, halves[] = {8, 8};
     static const uint8_t edge[] = {100, 200, 100}, low[] = {255, 0, 255}, high[] = {0, 255, 0}, frame[] = {1, 2, 3, 5, 6, 7};
     LENT(uint8_t, out, 1);
-#define COLUMN8(samples) (mirror_vertical_u8(samples, 3, 3, 1, 0, 1, sharp, 3, nought, 1, threes, 1, 3, 4, LIST(out)) == MIRROR_DONE ? out.at[0] : -1)
+#define COLUMN8(samples) (mirror_vertical_u8(samples, 3, 3, 1, 0, 1, sharp, 3, nought, 1, threes, 1, even, 1, 3, 4, LIST(out)) == MIRROR_DONE ? out.at[0] : -1)
     CHECK(COLUMN8(edge) == 250 && COLUMN8(low) == 0 && COLUMN8(high) == 255 && KEPT_FROM(out, 1));
     /* a range of columns gives those columns of the whole */
     LENT(uint8_t, whole, 3);
     LENT(uint8_t, part, 2);
-    CHECK(mirror_vertical_u8(frame, 6, 2, 3, 0, 3, halves, 2, nought, 1, twos, 1, 2, 4, LIST(whole)) == MIRROR_DONE);
-    CHECK(mirror_vertical_u8(frame, 6, 2, 3, 1, 2, halves, 2, nought, 1, twos, 1, 2, 4, LIST(part)) == MIRROR_DONE);
+    CHECK(mirror_vertical_u8(frame, 6, 2, 3, 0, 3, halves, 2, nought, 1, twos, 1, even, 1, 2, 4, LIST(whole)) == MIRROR_DONE);
+    CHECK(mirror_vertical_u8(frame, 6, 2, 3, 1, 2, halves, 2, nought, 1, twos, 1, even, 1, 2, 4, LIST(part)) == MIRROR_DONE);
     CHECK(whole.at[0] == 3 && whole.at[1] == 4 && whole.at[2] == 5 && part.at[0] == 4 && part.at[1] == 5 && KEPT_FROM(whole, 3) && KEPT_FROM(part, 2));
     memset(&part, FILL, sizeof part);
 #define REFUSED8(number, src, lines, first, slots, precision, room) \
-    CHECK(mirror_vertical_u8(frame, src, lines, 3, first, 2, halves, slots, nought, 1, twos, 1, 2, precision, part.at, room) == (number) && UNCHANGED(part))
+    CHECK(mirror_vertical_u8(frame, src, lines, 3, first, 2, halves, slots, nought, 1, twos, 1, even, 1, 2, precision, part.at, room) == (number) && UNCHANGED(part))
     REFUSED8(MIRROR_BAD_SIDE, 6, 0, 0, 2, 4, 2);
     REFUSED8(MIRROR_DOES_NOT_FIT, 5, 2, 0, 2, 4, 2);
     REFUSED8(MIRROR_DOES_NOT_FIT, 6, 2, 2, 2, 4, 2);
@@ -70,6 +74,8 @@ static void check_u8(void)
     REFUSED8(MIRROR_DOES_NOT_FIT, 6, 2, 0, 2, 3, 2);
     REFUSED8(MIRROR_DOES_NOT_FIT, 6, 2, 0, 2, 22, 2);
     REFUSED8(MIRROR_DOES_NOT_FIT, 6, 2, 0, 2, 4, 1);
+#define EXCESS8(excesses, n) mirror_vertical_u8(frame, 6, 2, 3, 0, 2, halves, 2, nought, 1, twos, 1, excesses, n, 2, 4, LIST(part))
+    CHECK(EXCESS8(odd, 1) == MIRROR_DOES_NOT_FIT && EXCESS8(even, 0) == MIRROR_DOES_NOT_FIT && EXCESS8(even, 2) == MIRROR_DOES_NOT_FIT && UNCHANGED(part));
     /* 257 weights of -32768: 255 x 257 x 32768 is 2^31 - 32768; both ends of i32; 10 before 9 */
     static int16_t heavy[257];
     static uint8_t bright[257];
@@ -78,13 +84,16 @@ static void check_u8(void)
         heavy[i] = -32768, bright[i] = 255;
     for (uint32_t p = 3; p <= 22; p++) {
         LENT(uint8_t, one, 1);
-        uint32_t no = mirror_vertical_u8(bright, n, n, 1, 0, 1, heavy, n, nought, 1, &n, 1, n, p, LIST(one));
+        int64_t over = -32768 * 257 - (1 << p), beside = over + 1;
+        uint32_t no = mirror_vertical_u8(bright, n, n, 1, 0, 1, heavy, n, nought, 1, &n, 1, &over, 1, n, p, LIST(one));
         CHECK(no == (p < 4 || p > 21 ? MIRROR_DOES_NOT_FIT : p > 15 ? MIRROR_WEIGHT_OUTSIDE : MIRROR_DONE));
         CHECK(no == MIRROR_DONE ? one.at[0] == 0 && KEPT_FROM(one, 1) : UNCHANGED(one));
+        CHECK(mirror_vertical_u8(bright, n, n, 1, 0, 1, heavy, n, nought, 1, &n, 1, &beside, 1, n, p, LIST(one)) == MIRROR_DOES_NOT_FIT);
     }
     for (int i = 0; i < 257; i++)
         heavy[i] = 32767;
-    CHECK(mirror_vertical_u8(bright, n, n, 1, 0, 1, heavy, n, nought, 1, &n, 1, n, 15, LIST(out)) == MIRROR_DONE && out.at[0] == 255);
+    int64_t over = 32767 * 257 - (1 << 15);
+    CHECK(mirror_vertical_u8(bright, n, n, 1, 0, 1, heavy, n, nought, 1, &n, 1, &over, 1, n, 15, LIST(out)) == MIRROR_DONE && out.at[0] == 255);
 }
 
 static void check_f32(void)

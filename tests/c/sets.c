@@ -116,30 +116,33 @@ void check_normalizers(void)
 {
     LENT(int16_t, out16, 4);
     LENT(int32_t, out32, 2);
+    LENT(int64_t, over, 2);
     uint32_t precision = 77;
-    /* rows 7, 8 and 9 */
-    CHECK(mirror_normalize16(1, 1, one, 1, nought, 1, ones, 1, LIST(out16), &precision) == MIRROR_DONE && precision == 14);
-    CHECK(out16.at[0] == 16384 && KEPT_FROM(out16, 1));
-    CHECK(mirror_normalize16(3, 3, third, 3, nought, 1, threes, 1, LIST(out16), &precision) == MIRROR_DONE && precision == 16);
-    CHECK(out16.at[0] == 21845 && out16.at[1] == 21845 && out16.at[2] == 21845 && KEPT_FROM(out16, 3));
-    CHECK(mirror_normalize32(1, 1, one, 1, nought, 1, ones, 1, LIST(out32), &precision) == MIRROR_DONE && precision == 30);
-    CHECK(out32.at[0] == 1073741824 && KEPT_FROM(out32, 1));
+    /* rows 7, 8 and 9; three weights of 1/3 total 65535 at precision 16 */
+    CHECK(mirror_normalize16(1, 1, one, 1, nought, 1, ones, 1, LIST(out16), LIST(over), &precision) == MIRROR_DONE && precision == 14);
+    CHECK(out16.at[0] == 16384 && KEPT_FROM(out16, 1) && over.at[0] == 0 && KEPT_FROM(over, 1));
+    CHECK(mirror_normalize16(3, 3, third, 3, nought, 1, threes, 1, LIST(out16), LIST(over), &precision) == MIRROR_DONE && precision == 16);
+    CHECK(out16.at[0] == 21845 && out16.at[1] == 21845 && out16.at[2] == 21845 && KEPT_FROM(out16, 3) && over.at[0] == -1 && KEPT_FROM(over, 1));
+    CHECK(mirror_normalize32(1, 1, one, 1, nought, 1, ones, 1, LIST(out32), LIST(over), &precision) == MIRROR_DONE && precision == 30);
+    CHECK(out32.at[0] == 1073741824 && KEPT_FROM(out32, 1) && over.at[0] == 0 && KEPT_FROM(over, 1));
     memset(&out16, FILL, sizeof out16);
     memset(&out32, FILL, sizeof out32);
-#define NEITHER(number, lines, window, weights, slots, starts, first, sizes, second, room)                                                 \
-    precision = 77;                                                                                                                        \
-    CHECK(mirror_normalize16(lines, window, weights, slots, starts, first, sizes, second, out16.at, room, &precision) == (number) &&      \
-          precision == 0 && UNCHANGED(out16));                                                                                             \
-    precision = 77;                                                                                                                        \
-    CHECK(mirror_normalize32(lines, window, weights, slots, starts, first, sizes, second, out32.at, room, &precision) == (number) &&      \
-          precision == 0 && UNCHANGED(out32))
-    NEITHER(MIRROR_BAD_SIDE, 0, 1, one, 1, nought, 1, ones, 1, 1);
-    NEITHER(MIRROR_BAD_SIDE, 1, 1, one, 0, nought, 0, ones, 0, 0);
-    NEITHER(MIRROR_TOO_FEW_SLOTS, 1, 1, none, 1, nought, 1, ones, 1, 0);
-    NEITHER(MIRROR_DOES_NOT_FIT, 1, 1, none, 1, nought, 1, threes, 1, 1);
-    NEITHER(MIRROR_DOES_NOT_FIT, 1, 1, one, 1, ones, 1, ones, 1, 1);
-    NEITHER(MIRROR_DOES_NOT_FIT, 1, 1, one, 0, nought, 1, ones, 1, 1);
-    NEITHER(MIRROR_DOES_NOT_FIT, 1, 0, one, 0, nought, 1, ones, 1, 1);
-    NEITHER(MIRROR_WEIGHT_OUTSIDE, 1, 1, none, 1, nought, 1, ones, 1, 1);
-    NEITHER(MIRROR_WEIGHT_OUTSIDE, 1, 1, large, 1, nought, 1, ones, 1, 1);
+    memset(&over, FILL, sizeof over);
+#define NEITHER(number, lines, window, weights, slots, starts, first, sizes, second, room, places)                                                        \
+    precision = 77;                                                                                                                                       \
+    CHECK(mirror_normalize16(lines, window, weights, slots, starts, first, sizes, second, out16.at, room, over.at, places, &precision) == (number) &&    \
+          precision == 0 && UNCHANGED(out16) && UNCHANGED(over));                                                                                         \
+    precision = 77;                                                                                                                                       \
+    CHECK(mirror_normalize32(lines, window, weights, slots, starts, first, sizes, second, out32.at, room, over.at, places, &precision) == (number) &&    \
+          precision == 0 && UNCHANGED(out32) && UNCHANGED(over))
+    NEITHER(MIRROR_BAD_SIDE, 0, 1, one, 1, nought, 1, ones, 1, 1, 1);
+    NEITHER(MIRROR_BAD_SIDE, 1, 1, one, 0, nought, 0, ones, 0, 0, 0);
+    NEITHER(MIRROR_TOO_FEW_SLOTS, 1, 1, none, 1, nought, 1, ones, 1, 0, 1);
+    NEITHER(MIRROR_TOO_FEW_SLOTS, 1, 1, one, 1, nought, 1, ones, 1, 1, 0);
+    NEITHER(MIRROR_DOES_NOT_FIT, 1, 1, none, 1, nought, 1, threes, 1, 1, 1);
+    NEITHER(MIRROR_DOES_NOT_FIT, 1, 1, one, 1, ones, 1, ones, 1, 1, 1);
+    NEITHER(MIRROR_DOES_NOT_FIT, 1, 1, one, 0, nought, 1, ones, 1, 1, 1);
+    NEITHER(MIRROR_DOES_NOT_FIT, 1, 0, one, 0, nought, 1, ones, 1, 1, 1);
+    NEITHER(MIRROR_WEIGHT_OUTSIDE, 1, 1, none, 1, nought, 1, ones, 1, 1, 1);
+    NEITHER(MIRROR_WEIGHT_OUTSIDE, 1, 1, large, 1, nought, 1, ones, 1, 1, 2);
 }

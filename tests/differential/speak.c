@@ -89,8 +89,8 @@ static int u32_of(const char *w, uint32_t *n)
 static int integer(const char *w, int64_t least, int64_t most, int64_t *n)
 {
     uint64_t x;
-    int minus = *w == '-', good = number(w + minus, (uint64_t)(minus ? -least : most), &x);
-    *n = minus ? -(int64_t)x : (int64_t)x;
+    int minus = *w == '-', good = number(w + minus, minus ? -(uint64_t)least : (uint64_t)most, &x);
+    *n = (int64_t)(minus ? -x : x);
     return good && !(minus && x == 0);
 }
 
@@ -117,7 +117,7 @@ static int f64_of(const char *w, double *x)
     return good;
 }
 
-/* One element of a list: c bytes, i and h signed, w and u unsigned of 16 and 32 bits, d and f floats. */
+/* One element of a list: c bytes, h, i and q signed of 16, 32 and 64 bits, w and u unsigned of 16 and 32 bits, d and f floats. */
 static int element(char type, const char *w, void *to)
 {
     uint64_t u = 0;
@@ -129,6 +129,7 @@ static int element(char type, const char *w, void *to)
     case 'u': good = number(w, UINT32_MAX, &u); *(uint32_t *)to = (uint32_t)u; break;
     case 'h': good = integer(w, INT16_MIN, INT16_MAX, &i); *(int16_t *)to = (int16_t)i; break;
     case 'i': good = integer(w, INT32_MIN, INT32_MAX, &i); *(int32_t *)to = (int32_t)i; break;
+    case 'q': good = integer(w, INT64_MIN, INT64_MAX, &i); *(int64_t *)to = i; break;
     case 'd': good = hex(w, 16, &u); memcpy(to, &u, 8); break;
     case 'f': good = hex(w, 8, &u); u = (uint32_t)u; memcpy(to, &u, 4); break;
     }
@@ -137,7 +138,7 @@ static int element(char type, const char *w, void *to)
 
 static size_t width_of(char type)
 {
-    return type == 'c' ? 1 : type == 'w' || type == 'h' ? 2 : type == 'd' ? 8 : 4;
+    return type == 'c' ? 1 : type == 'w' || type == 'h' ? 2 : type == 'd' || type == 'q' ? 8 : 4;
 }
 
 static struct list *read_list(char type, char *w, int kept)
@@ -174,6 +175,8 @@ static struct list *lend(char type, const char *w)
             *(double *)to = v;
         else if (type == 'f')
             *(float *)to = (float)v;
+        else if (type == 'q')
+            *(int64_t *)to = v;
         else if (l->width == 1)
             *(uint8_t *)to = (uint8_t)v;
         else if (l->width == 2)
@@ -202,6 +205,7 @@ static void show(char type, const struct list *l)
         case 'x': printf("%02" PRIx64, bits); break;
         case 'h': printf("%d", *(const int16_t *)from); break;
         case 'i': printf("%" PRId32, *(const int32_t *)from); break;
+        case 'q': printf("%" PRId64, *(const int64_t *)from); break;
         default: printf("%" PRIu64, bits); break;
         }
     }
@@ -299,14 +303,17 @@ static int normalize(char **w)
     int wide = w[0][4] == '3';
     OR_BAD(u32_of(w[1], &lines) && u32_of(w[2], &window));
     struct list *slots = read_list('d', w[3], 1), *starts = slots ? read_list('u', w[4], 1) : NULL, *sizes = starts ? read_list('u', w[5], 1) : NULL;
-    struct list *out = sizes ? lend(wide ? 'i' : 'h', w[6]) : NULL;
-    OR_BAD(out);
+    struct list *out = sizes ? lend(wide ? 'i' : 'h', w[6]) : NULL, *over = out ? lend('q', w[7]) : NULL;
+    OR_BAD(over);
     if (wide)
-        no = mirror_normalize32(lines, window, at(slots), slots->count, at(starts), starts->count, at(sizes), sizes->count, at(out), out->count, &precision);
+        no = mirror_normalize32(lines, window, at(slots), slots->count, at(starts), starts->count, at(sizes), sizes->count, at(out), out->count,
+                                at(over), over->count, &precision);
     else
-        no = mirror_normalize16(lines, window, at(slots), slots->count, at(starts), starts->count, at(sizes), sizes->count, at(out), out->count, &precision);
+        no = mirror_normalize16(lines, window, at(slots), slots->count, at(starts), starts->count, at(sizes), sizes->count, at(out), out->count,
+                                at(over), over->count, &precision);
     printf("%" PRIu32 " %" PRIu32, no, precision);
     show(wide ? 'i' : 'h', out);
+    show('q', over);
     return 1;
 }
 
@@ -317,14 +324,17 @@ static int pass(char **w, int floats)
         OR_BAD(u32_of(w[i + 1], &n[i]));
     w += 7 - floats;
     struct list *ws = read_list(floats ? 'd' : 'i', w[0], 1), *starts = ws ? read_list('u', w[1], 1) : NULL, *sizes = starts ? read_list('u', w[2], 1) : NULL;
-    struct list *src = sizes ? read_list(floats ? 'f' : 'w', w[3], 1) : NULL, *out = src ? lend(floats ? 'f' : 'w', w[4]) : NULL;
+    struct list *over = sizes && !floats ? read_list('q', w[3], 1) : NULL;
+    OR_BAD(floats ? sizes != NULL : over != NULL);
+    w += 4 - floats;
+    struct list *src = read_list(floats ? 'f' : 'w', w[0], 1), *out = src ? lend(floats ? 'f' : 'w', w[1]) : NULL;
     OR_BAD(out);
     if (floats)
         no = mirror_vertical_f32(at(src), src->count, n[0], n[1], n[2], n[3], at(ws), ws->count, at(starts), starts->count, at(sizes), sizes->count,
                                  n[4], at(out), out->count, &infinite);
     else
         no = mirror_vertical_u16(at(src), src->count, n[0], n[1], n[2], n[3], at(ws), ws->count, at(starts), starts->count, at(sizes), sizes->count,
-                                 n[4], n[5], at(out), out->count);
+                                 at(over), over->count, n[4], n[5], at(out), out->count);
     printf("%" PRIu32, no);
     if (floats)
         printf(" %" PRIu32, infinite);
@@ -338,10 +348,10 @@ static int pass8(char **w)
     for (int i = 0; i < 6; i++)
         OR_BAD(u32_of(w[i + 1], &n[i]));
     struct list *ws = read_list('h', w[7], 1), *starts = ws ? read_list('u', w[8], 1) : NULL, *sizes = starts ? read_list('u', w[9], 1) : NULL;
-    struct list *src = sizes ? read_list('c', w[10], 1) : NULL, *out = src ? lend('c', w[11]) : NULL;
+    struct list *over = sizes ? read_list('q', w[10], 1) : NULL, *src = over ? read_list('c', w[11], 1) : NULL, *out = src ? lend('c', w[12]) : NULL;
     OR_BAD(out);
     printf("%" PRIu32, mirror_vertical_u8(at(src), src->count, n[0], n[1], n[2], n[3], at(ws), ws->count, at(starts), starts->count, at(sizes),
-                                          sizes->count, n[4], n[5], at(out), out->count));
+                                          sizes->count, at(over), over->count, n[4], n[5], at(out), out->count));
     show('c', out);
     return 1;
 }
@@ -383,12 +393,14 @@ static int sheet(char **w)
     int wide = strcmp(w[4], "32") == 0;
     OR_BAD(kind_of(w[1], &kind) && u32_of(w[2], &lines) && u32_of(w[3], &window) && (wide || strcmp(w[4], "16") == 0) && u32_of(w[5], &precision));
     struct list *ws = read_list(wide ? 'i' : 'h', w[6], 1), *starts = ws ? read_list('u', w[7], 1) : NULL, *sizes = starts ? read_list('u', w[8], 1) : NULL;
-    struct list *text = sizes ? lend('c', w[9]) : NULL;
+    struct list *over = sizes ? read_list('q', w[9], 1) : NULL, *text = over ? lend('c', w[10]) : NULL;
     OR_BAD(text);
     if (wide)
-        no = mirror_sheet32(kind, lines, window, precision, at(ws), ws->count, at(starts), starts->count, at(sizes), sizes->count, at(text), text->count, &written);
+        no = mirror_sheet32(kind, lines, window, precision, at(ws), ws->count, at(starts), starts->count, at(sizes), sizes->count, at(over), over->count,
+                            at(text), text->count, &written);
     else
-        no = mirror_sheet16(kind, lines, window, precision, at(ws), ws->count, at(starts), starts->count, at(sizes), sizes->count, at(text), text->count, &written);
+        no = mirror_sheet16(kind, lines, window, precision, at(ws), ws->count, at(starts), starts->count, at(sizes), sizes->count, at(over), over->count,
+                            at(text), text->count, &written);
     printf("%" PRIu32 " %" PRIu64, no, written);
     show('x', text);
     return 1;
@@ -417,17 +429,19 @@ static int read_sheet(char **w)
     uint64_t byte = 77;
     int wide = strcmp(w[0], "read") == 0;
     struct list *text = read_text(w[1]), *ws = text ? lend(wide ? 'i' : 'h', w[2]) : NULL, *starts = ws ? lend('u', w[3]) : NULL, *sizes = starts ? lend('u', w[4]) : NULL;
-    OR_BAD(sizes);
+    struct list *over = sizes ? lend('q', w[5]) : NULL;
+    OR_BAD(over);
     if (wide)
-        no = mirror_read_sheet(at(text), text->count, at(ws), ws->count, at(starts), starts->count, at(sizes), sizes->count, &kind, &lines, &windows, &window, &store, &precision, &byte);
+        no = mirror_read_sheet(at(text), text->count, at(ws), ws->count, at(starts), starts->count, at(sizes), sizes->count, at(over), over->count, &kind, &lines, &windows, &window, &store, &precision, &byte);
     else
-        no = mirror_read_sheet16(at(text), text->count, at(ws), ws->count, at(starts), starts->count, at(sizes), sizes->count, &kind, &lines, &windows, &window, &store, &precision, &byte);
+        no = mirror_read_sheet16(at(text), text->count, at(ws), ws->count, at(starts), starts->count, at(sizes), sizes->count, at(over), over->count, &kind, &lines, &windows, &window, &store, &precision, &byte);
     if (kind > 3)
         return 0;
     printf("%" PRIu32 " %" PRIu64 " %s %" PRIu32 " %" PRIu32 " %" PRIu32 " %" PRIu32 " %" PRIu32, no, byte, no ? "-" : names[kind], lines, window, store, precision, windows);
     show(wide ? 'i' : 'h', ws);
     show('u', starts);
     show('u', sizes);
+    show('q', over);
     return 1;
 }
 
@@ -455,11 +469,11 @@ static int answer(char **w, int words)
         return fit(w, words);
     if (words == 14 && strcmp(w[0], "build") == 0)
         return build(w);
-    if (words == 7 && one_of(w[0], "norm16 norm32"))
+    if (words == 8 && one_of(w[0], "norm16 norm32"))
         return normalize(w);
-    if (words == 12 && strcmp(w[0], "u16pass") == 0)
+    if (words == 13 && strcmp(w[0], "u16pass") == 0)
         return pass(w, 0);
-    if (words == 12 && strcmp(w[0], "u8pass") == 0)
+    if (words == 13 && strcmp(w[0], "u8pass") == 0)
         return pass8(w);
     if (words == 11 && strcmp(w[0], "f32pass") == 0)
         return pass(w, 1);
@@ -467,9 +481,9 @@ static int answer(char **w, int words)
         return alpha(w, words);
     if ((words == 3 && one_of(w[0], "mul16 div16")) || (words == 2 && one_of(w[0], "mul16in div16in")))
         return alpha16(w, words);
-    if (words == 10 && strcmp(w[0], "sheet") == 0)
+    if (words == 11 && strcmp(w[0], "sheet") == 0)
         return sheet(w);
-    if (words == 5 && one_of(w[0], "read read16"))
+    if (words == 6 && one_of(w[0], "read read16"))
         return read_sheet(w);
     return 0;
 }

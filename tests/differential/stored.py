@@ -190,14 +190,17 @@ def normalizer(r):
         yield "clip8 %d" % v
     for v in (-(2**31), 2**31 - 1, -(2**31) + 1, 1151, -1152, 65535, 2**30, -(2**30)):
         yield "clip8 %d" % v
-    def norm(lines, window, slots, starts, sizes, lent_to=None, names=("norm16", "norm32")):
+    def norm(lines, window, slots, starts, sizes, lent_to=None, names=("norm16", "norm32"), places=None):
         for name in names:
             room = window * len(starts) if lent_to is None else lent_to
-            yield "%s %d %d %s %s %s %d" % (name, lines, window, joined(slots, hex64), joined(starts), joined(sizes), room)
+            yield "%s %d %d %s %s %s %d %d" % (name, lines, window, joined(slots, hex64), joined(starts), joined(sizes), room, len(starts) if places is None else places)
     third = double(0x3FD5555555555555)
     yield from norm(1, 1, [1.0], [0], [1])
     yield from norm(3, 3, [third] * 3, [0], [3])
     yield from norm(3, 3, [third] * 3, [0], [3], 8)
+    for places in (0, 1, 2, 5):  # two windows; the second's weights total -1/4
+        yield from norm(4, 3, [third, third, third, 0.5, -0.75, 9.0], [0, 1], [3, 2], None, ("norm16", "norm32"), places)
+        yield from norm(4, 3, [NAN] * 6, [0, 9], [3, 2], 6, ("norm16", "norm32"), places)
     for one in ([-2.5, 1.0], [-3.0, 1.0], [1.0, -2.0], [-1.0, 1.0], [-2.0000000001, 1.0], [-1.99996948242187, 1.0], [0.0, 0.0], [-0.0, -1.0], [-1e-9, -1e300], [1e300, 1.0],
                 [-1e308, 2.0**-30], [-1e308, 1.0], [TINY, -TINY], [NAN, 1.0], [INF, 1.0], [-INF, 1.0], [1.0, NAN], [2047.96875, 0.0], [2048.0, 0.0], [1023.9, 0.0],
                 [1024.0, 0.0], [1023.984375, 0.0], [0.49999, 0.5], [double(0x7FEFFFFFFFFFFFFF), 0.0], [134217727.9, 0.0], [134217728.0, 0.0], [2.0**26, 0.0], [1.0, -1.0]):
@@ -222,8 +225,8 @@ def normalizer(r):
             yield from norm(lines, window, slots, starts, sizes)
     for _ in range(170):
         yield normalize(r)
-    yield from ("norm16 1 1 3ff0000000000000 0 1", "norm32 1 1 3ff000000000000 0 1 1", "norm16 1 1 3ff0000000000000, 0 1 1", "norm16 1 1 3ff0000000000000 -1 1 1",
-                "norm16 1 1 3ff0000000000000 0 1 -", "norm64 1 1 3ff0000000000000 0 1 1", "clip8", "clip8 -", "clip8 2147483648", "clip8 -2147483649", "clip8 -0", "clip8 1 1", "")
+    yield from ("norm16 1 1 3ff0000000000000 0 1 1", "norm32 1 1 3ff000000000000 0 1 1 1", "norm16 1 1 3ff0000000000000, 0 1 1 1", "norm16 1 1 3ff0000000000000 -1 1 1 1",
+                "norm16 1 1 3ff0000000000000 0 1 - 1", "norm16 1 1 3ff0000000000000 0 1 1 -1", "norm32 1 1 3ff0000000000000 0 1 1 1 1", "norm64 1 1 3ff0000000000000 0 1 1 1", "clip8", "clip8 -", "clip8 2147483648", "clip8 -2147483649", "clip8 -0", "clip8 1 1", "")
 
 
 def build_group(r):
@@ -278,11 +281,23 @@ def build_group(r):
                 "build lanczos3 1 0 1 1 1 %s 3 1 1" % " ".join(map(hex64, (0.0, 0.0, 1.0, 1.0))), "build", "")
 
 
+def right(window, precision, weights, sizes):
+    """The excesses of a set; of one that does not fit, as far as it goes."""
+    return [sum(weights[i * window:i * window + n]) - 2 ** min(precision, 62) for i, n in enumerate(sizes)]
+
+
+def wrong_excesses(one):
+    """A set of three windows with excess 1, 0 and -2: each excess one too much or too little, turned over or the first one's; slots not in use counted; one too few, one too many, none."""
+    for found in ([1, 0, -2], [2, 0, -2], [0, 0, -2], [1, 1, -2], [1, -1, -2], [1, 0, -1], [1, 0, -3], [-1, 0, 2], [1, 1, 1], [1, 5, -2], [1, 0], [1, 0, -2, 0], [1, 0, -2, -16], [], [2**32 + 1, 0, -2], [-(2**63), 2**63 - 1, -2]):
+        yield one(3, 1, 0, 1, 2, 4, [9, 8, 16, 5, -3, 17], [0, 2, 0], [2, 1, 2], (200, 100, 50), None, found)
+
+
 def passes(r):
-    def u16(lines, row, first, count, window, precision, weights, starts, sizes, samples, out=None):
+    def u16(lines, row, first, count, window, precision, weights, starts, sizes, samples, out=None, found=None):
         out = len(starts) * count if out is None else out
-        return "u16pass %d %d %d %d %d %d %s %s %s %s %d" % (
-            lines, row, first, count, window, precision, joined(weights), joined(starts), joined(sizes), joined(samples), out)
+        found = right(window, precision, weights, sizes) if found is None else found
+        return "u16pass %d %d %d %d %d %d %s %s %s %s %s %d" % (
+            lines, row, first, count, window, precision, joined(weights), joined(starts), joined(sizes), joined(found), joined(samples), out)
     def f32(lines, row, first, count, window, weights, starts, sizes, samples, out=None):
         out = len(starts) * count if out is None else out
         return "f32pass %d %d %d %d %d %s %s %s %s %d" % (lines, row, first, count, window, joined(weights, hex64), joined(starts), joined(sizes),
@@ -340,13 +355,15 @@ def passes(r):
             del one[5]
             one[5] = [float(k) for k in one[5]]
             yield f32(*one)
+    yield from wrong_excesses(u16)
     for _ in range(50):
         yield u16pass(r)
         yield f32pass(r)
     yield from bytes_passes(random.Random(SEED + 8))
     yield from bright_passes()
-    yield from ("u16pass 1 1 0 1 1 4 16 0 1 65536 1", "u16pass 1 1 0 1 1 4 2147483648 0 1 1 1", "u16pass 1 1 0 1 1 4 16 0 1 1", "f32pass 1 1 0 1 1 3ff0000000000000 0 1 3ff0000000000000 1",
-                "f32pass 1 1 0 1 1 3ff0000000000000 0 1 3f800000 1 1", "u16pass 1 1 0 1 1 4 16 0 1 -1 1", "")
+    yield from ("u16pass 1 1 0 1 1 4 16 0 1 0 65536 1", "u16pass 1 1 0 1 1 4 2147483648 0 1 0 1 1", "u16pass 1 1 0 1 1 4 16 0 1 0 1", "u16pass 1 1 0 1 1 4 16 0 1 9223372036854775808 1 1",
+                "u16pass 1 1 0 1 1 4 16 0 1 -9223372036854775809 1 1", "u16pass 1 1 0 1 1 4 16 0 1 -0 1 1", "u16pass 1 1 0 1 1 4 16 0 1 0x0 1 1", "f32pass 1 1 0 1 1 3ff0000000000000 0 1 3ff0000000000000 1",
+                "f32pass 1 1 0 1 1 3ff0000000000000 0 1 3f800000 1 1", "u16pass 1 1 0 1 1 4 16 0 1 0 -1 1", "")
 
 
 def bright_passes():
@@ -369,10 +386,11 @@ def bright_passes():
 
 
 def bytes_passes(r):
-    def u8(lines, row, first, count, window, precision, weights, starts, sizes, samples, out=None):
+    def u8(lines, row, first, count, window, precision, weights, starts, sizes, samples, out=None, found=None):
         out = len(starts) * count if out is None else out
-        return "u8pass %d %d %d %d %d %d %s %s %s %s %d" % (
-            lines, row, first, count, window, precision, joined(weights), joined(starts), joined(sizes), joined(samples), out)
+        found = right(window, precision, weights, sizes) if found is None else found
+        return "u8pass %d %d %d %d %d %d %s %s %s %s %s %d" % (
+            lines, row, first, count, window, precision, joined(weights), joined(starts), joined(sizes), joined(found), joined(samples), out)
     for samples in ((100, 200, 100), (255, 0, 255), (0, 255, 0)):
         yield u8(3, 1, 0, 1, 3, 4, [-4, 24, -4], [0], [3], samples)
     for samples in ((1, 0), (0, 1), (1, 1)):
@@ -406,21 +424,26 @@ def bytes_passes(r):
             one = list(good)
             one[place] = v
             yield u8(*one)
+    yield from wrong_excesses(u8)
+    yield u8(258, 1, 0, 1, 258, 4, heavy, [0], [258], [0] * 258, None, [0])         # a wrong excess before 9
     for _ in range(60):
         line = u8pass(r)
         while len(line) > 1500:
             line = u8pass(r)
         yield line
-    yield from ("u8pass 1 1 0 1 1 4 16 0 1 256 1", "u8pass 1 1 0 1 1 4 32768 0 1 1 1", "u8pass 1 1 0 1 1 4 16 0 1 1", "u8pass 1 1 0 1 1 4 16 0 1 -1 1", "u8pass")
+    yield from ("u8pass 1 1 0 1 1 4 16 0 1 0 256 1", "u8pass 1 1 0 1 1 4 32768 0 1 0 1 1", "u8pass 1 1 0 1 1 4 16 0 1 0 1", "u8pass 1 1 0 1 1 4 16 0 1 0 -1 1", "u8pass 1 1 0 1 1 4 16 0 1 0, 1 1", "u8pass")
 
 
 def sheet_group(r):
-    def of(kind, lines, window, store, precision, weights, starts, sizes, room):
-        return "sheet %s %d %d %d %d %s %s %s %d" % (kind, lines, window, store, precision, joined(weights), joined(starts), joined(sizes), room)
+    def of(kind, lines, window, store, precision, weights, starts, sizes, room, found=None):
+        found = right(window, precision, weights, sizes) if found is None else found
+        return "sheet %s %d %d %d %d %s %s %s %s %d" % (kind, lines, window, store, precision, joined(weights), joined(starts), joined(sizes), joined(found), room)
     half = 2**30
     example = [half, half, 0, half, half, 0]
-    for room in (0, 1, 108, 109, 110, 140):
+    for room in (0, 1, 108, 109, 110, 119, 120, 121, 140):
         yield of("box", 4, 3, 32, 31, example, [0, 2], [2, 2], room)
+    for found in ([0, 1], [1, 0], [0], [0, 0, 0], [], [-1, 0], [2**31, 2**31]):
+        yield of("box", 4, 3, 32, 31, example, [0, 2], [2, 2], 121, found)
     for kind in KINDS:
         yield of(kind, 1, 1, 16, 14, [16384], [0], [1], 90)
     for store, top in ((16, 2**15), (32, 2**31)):
@@ -438,7 +461,8 @@ def sheet_group(r):
         while len(line) > 300:
             line = sheet(r)
         yield line
-    yield from ("sheet box 1 1 16 14 32768 0 1 99", "sheet box 1 1 64 14 1 0 1 99", "sheet lanczos3 1 1 16 14 1 0 1 99", "sheet box 1 1 16 14 1 0 1", "sheet box 1 1 16 14 -32769 0 1 9", "")
+    yield from ("sheet box 1 1 16 14 32768 0 1 0 99", "sheet box 1 1 64 14 1 0 1 0 99", "sheet lanczos3 1 1 16 14 1 0 1 0 99", "sheet box 1 1 16 14 1 0 1 0", "sheet box 1 1 16 14 -32769 0 1 0 9",
+                "sheet box 1 1 16 14 1 0 1 9223372036854775808 9", "")
 
 
 def read_group(r):
@@ -449,11 +473,11 @@ def read_group(r):
         if words[0] == "sheet" and no == "0":
             windows = words[7].count(",") + 1
             for name in ("read", "read16"):
-                yield "%s %s %d %d %d" % (name, text[:2 * int(length)], int(words[3]) * windows + 1, windows, windows + 1)
-    good = texts.sheet_text("box", 4, 3, 32, 31, [2**30, 2**30, 0, -1, 2**31 - 1, 0], [0, 2], [2, 2])
-    small = texts.sheet_text("mitchell", 9, 2, 16, 21, [-(2**15), 2**15 - 1], [7], [2])
+                yield "%s %s %d %d %d %d" % (name, text[:2 * int(length)], int(words[3]) * windows + 1, windows, windows + 1, windows + 2)
+    good = texts.sheet_text("box", 4, 3, 32, 31, [2**30, 2**30, 0, -1, 2**31 - 1, 0], [0, 2], [2, 2], [0, -2])
+    small = texts.sheet_text("mitchell", 9, 2, 16, 21, [-(2**15), 2**15 - 1], [7], [2], [-1 - 2**21])
 
-    def of(old, new, text=good, room="6 2 2"):
+    def of(old, new, text=good, room="6 2 2 2"):
         assert text.count(old) > 0
         return ["%s %s %s" % (name, text.replace(old, new, 1).hex() or "-", room) for name in ("read", "read16")]
     for old, new in (("in=4", "in=04"), ("in=4", "in=+4"), ("-1,", "-0,"), ("-1,", "-01,"), ("-1,", "--1,"), ("in=4", "in= 4"), ("in=4", "in=4 "), ("in=", " in="), ("\n", "\r\n"), ("\n", "\n\n"), ("=", "=\t"), ("in=4", "in=0"),
@@ -461,25 +485,28 @@ def read_group(r):
                      ("window=3", "window=32769"), ("window=3", "window=32770"), ("store=32", "store=16"), ("store=32", "store=64"), ("store=32", "store=3"), ("=31", "=3"), ("=31", "=4"), ("=31", "=45"), ("=31", "=46"), ("=31", "=021"),
                      ("w1=2,2", "w1=3,2"), ("w1=2,2", "w1=2,3"), ("w1=2,2", "w1=2,0"), ("w1=2,2", "w1=4,1"), ("w1=", "w2="), ("w1=", "w01="), ("w0=0,2:", "w0=0,2,"), (",1073741824\n", "\n"), (",1073741824\n", ",1073741824,\n"), (",1073741824\n", ",1,1\n"),
                      ("2147483647", "2147483648"), ("-1,", "-2147483648,"), ("-1,", "-2147483649,"), ("2147483647", "9" * 1000), ("in=4", "in=" + "4" * 1000), ("kind=box", "kind=Box"), ("kind=box", "kind=bo"), ("kind=box", "kind=lanczos3"),
-                     ("kind=box", "kind=bilinea"), ("kind", "king"), ("\n", "\0"), ("box", "box\0"), ("in=4", "\u00e9=4")):
+                     ("kind=box", "kind=bilinea"), ("kind", "king"), ("\n", "\0"), ("box", "box\0"), ("in=4", "\u00e9=4"),
+                     ("excess=0,-2\n", ""), ("excess=0,-2\n", "excess=\n"), ("0,-2\n", "0\n"), ("0,-2\n", "0,-2,0\n"), ("0,-2\n", "0,-2,\n"), ("0,-2\n", "0,-2"), ("0,-2\n", "0, -2\n"), ("=0,-2", "=1,-2"), ("=0,-2", "=-1,-2"), ("=0,-2", "=00,-2"), ("=0,-2", "=-0,-2"),
+                     ("=0,-2", "=0,2"), ("=0,-2", "=0,-1"), ("=0,-2", "=0,-20"), ("=0,-2", "=0,-02"), ("=0,-2", "=0,+2"), ("=0,-2", "=0;-2"), ("=0,-2", "=-2,0"), ("=0,-2", "=0,0"), ("=0,-2", "=" + "0" * 1000), ("excess", "Excess"), ("excess", "excesses"),
+                     ("\nexcess", "\n\nexcess"), ("\nexcess", "\nw2=0,1:0\nexcess")):
         yield from of(old.encode(), new.encode())
     for end in (b"", b"\n", b"0", b"\0", b"\r\n", good):
         yield from of(good, good[:-1] + end if end != good else good + good)
         yield from of(good, good + end)
-    for old, new in (("-32768", "-32769"), ("32767\n", "32768\n"), ("=21", "=22"), ("=21", "=4"), ("=16", "=32"), ("=7,2", "=8,2")):
-        yield from of(old.encode(), new.encode(), small, "2 1 1")
-    for room in ("5 2 2", "6 1 2", "6 2 1", "0 0 0", "7 3 3"):
+    for old, new in (("-32768", "-32769"), ("32767\n", "32768\n"), ("=21", "=22"), ("=21", "=4"), ("=16", "=32"), ("=7,2", "=8,2"), ("-2097153", "2097151"), ("-2097153", "-209715"), ("-2097153", "-2097152")):
+        yield from of(old.encode(), new.encode(), small, "2 1 1 1")
+    for room in ("5 2 2 2", "6 1 2 2", "6 2 1 2", "6 2 2 1", "6 2 2 0", "0 0 0 0", "7 3 3 3"):
         yield from of(b"w0", b"w0", good, room)
         yield from of(b"window=3\n", b"window=3", good, room)
         yield from of(b"store", b"shore", good, room)
     for at in range(len(small)):
-        yield "read16 %s 2 1 1" % (small[:at].hex() or "-")
+        yield "read16 %s 2 1 1 1" % (small[:at].hex() or "-")
     for _ in range(120):
         line = read(r)
         while len(line) > 400:
             line = read(r)
         yield line
-    yield from ("read - 1 1 1", "read16 - 0 0 0", "read 6 1 1 1", "read 6B 1 1 1", "read 6g 1 1 1", "read  1 1 1", "read 6b 1 1", "read 6b 1 1 1 1", "read 6b 131073 1 1", "read 6b 1 1 -1", "read16 zz 131073 1 1", "read", "read32 - 1 1 1", "")
+    yield from ("read - 1 1 1 1", "read16 - 0 0 0 0", "read 6 1 1 1 1", "read 6B 1 1 1 1", "read 6g 1 1 1 1", "read  1 1 1 1", "read 6b 1 1 1", "read 6b 1 1 1 1 1", "read 6b 131073 1 1 1", "read 6b 1 1 1 -1", "read16 zz 131073 1 1 1", "read", "read32 - 1 1 1 1", "")
 
 
 GROUPS = {"numbers": numbers, "alpha": alpha_group, "alpha16": alpha16_group, "crop": crop_group, "normalizer": normalizer, "build": build_group, "passes": passes, "sheet": sheet_group, "read": read_group}

@@ -1,16 +1,17 @@
-"""Texts for the readers (W-203): sheets of sets that fit, and the same with a mistake that somebody could make, or with bytes changed by chance."""
+"""Texts for the readers (W-203, W-207): sheets of sets that fit, and the same with a mistake that somebody could make, or with bytes changed by chance."""
 import re
 
-KEYS = (b"kind=", b"in=", b"out=", b"window=", b"store=", b"precision=")
+KEYS = (b"kind=", b"in=", b"out=", b"window=", b"store=", b"precision=", b"excess=")
 NAMES = (b"box", b"bilinear", b"catmullrom", b"mitchell")
 BYTES = b"0123456789-+,:= \t\r\n\0wkx\xc3\xff"
 
 
-def sheet_text(kind, lines, window, store, precision, weights, starts, sizes):
-    """Document 01's sheet of a set that fits."""
+def sheet_text(kind, lines, window, store, precision, weights, starts, sizes, excesses):
+    """The sheet of a set that fits."""
     rows = ["kind=%s" % kind, "in=%d" % lines, "out=%d" % len(starts), "window=%d" % window, "store=%d" % store, "precision=%d" % precision]
     for i, (start, size) in enumerate(zip(starts, sizes)):
         rows.append("w%d=%d,%d:%s" % (i, start, size, ",".join(map(str, weights[i * window:i * window + size]))))
+    rows.append("excess=%s" % ",".join(map(str, excesses)))
     return ("\n".join(rows) + "\n").encode()
 
 

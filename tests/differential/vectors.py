@@ -25,23 +25,23 @@ def asked(program, lines):
 
 
 def sets(program, shapes):
-    """Window size, precision, weights, starts and sizes of the 32-bit store, for a whole side, adapting."""
+    """Window size, precision, weights, starts, sizes and excesses of the 32-bit store, for a whole side, adapting."""
     built = asked(program, [
         "build %s 1 0 %d 1 %d %s %s %s %s %d %d %d" % (
             kind, side, out, hex64(0.0), hex64(0.0), hex64(float(side)), hex64(1.0), window_size(kind, 1, 0.0, float(side), out) * out, out, out)
         for kind, side, out in shapes])
-    normal = asked(program, ["norm32 %d %s %s %s %s %d" % (side, b[2], b[3], b[4], b[5], b[3].count(",") + 1) for (_, side, _), b in zip(shapes, built)])
+    normal = asked(program, ["norm32 %d %s %s %s %s %d %d" % (side, b[2], b[3], b[4], b[5], b[3].count(",") + 1, b[4].count(",") + 1) for (_, side, _), b in zip(shapes, built)])
     for b, n in zip(built, normal):
         assert b[0] == "0" and n[0] == "0", (b, n)
-        yield int(b[2]), int(n[1]), n[2], b[4], b[5]
+        yield int(b[2]), int(n[1]), n[2], b[4], b[5], n[3]
 
 
 def imagemagick(program, path):
     rows = [l.split("|") for l in open(path) if not l.startswith("#")]
     shapes = [(w[0], int(w[1]), int(w[2])) for w in (r[0].split() for r in rows)]
     made = list(sets(program, shapes))
-    answers = asked(program, ["u16pass %d 1 0 1 %d %d %s %s %s %s %d" % (side, window, p, ws, starts, sizes, row[1].strip(), out)
-                              for (_, side, out), (window, p, ws, starts, sizes), row in zip(shapes, made, rows)])
+    answers = asked(program, ["u16pass %d 1 0 1 %d %d %s %s %s %s %s %d" % (side, window, p, ws, starts, sizes, over, row[1].strip(), out)
+                              for (_, side, out), (window, p, ws, starts, sizes, over), row in zip(shapes, made, rows)])
     samples, differ = 0, set()
     for (kind, side, out), row, answer in zip(shapes, rows, answers):
         theirs, ours = row[2].strip().split(","), answer[1].split(",")
@@ -62,7 +62,7 @@ def pillow(program, path):
     rows = [l.split("|") for l in open(path) if not l.startswith("#")]
     shapes = [(w[0], int(w[1]), int(w[2])) for w in (r[0].split() for r in rows)]
     windows, differ, other = 0, set(), []
-    for (kind, side, out), row, (window, p, ws, starts, sizes) in zip(shapes, rows, sets(program, shapes)):
+    for (kind, side, out), row, (window, p, ws, starts, sizes, _) in zip(shapes, rows, sets(program, shapes)):
         if p != int(row[0].split()[3]):
             other.append("pillow: %s %d to %d, precision theirs=%s ours=%d" % (kind, side, out, row[0].split()[3], p))
         ws, starts, sizes = ([int(x) for x in text.split(",")] for text in (ws, starts, sizes))

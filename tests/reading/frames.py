@@ -15,6 +15,16 @@ def fits(lines, window, slots, starts, sizes):
             and all(0 < n <= window and s + n <= lines for s, n in zip(starts, sizes)))
 
 
+def excesses_of(window, precision, weights, sizes):
+    """Each window's excess: the total of its weights in use less 2^precision (W-207)."""
+    return [sum(weights[i * window:i * window + n]) - 2**precision for i, n in enumerate(sizes)]
+
+
+def stored(most, lines, window, precision, weights, starts, sizes, excesses):
+    """What No. 10 asks of a stored set whose precision is at most `most`."""
+    return fits(lines, window, len(weights), starts, sizes) and 4 <= precision <= most and excesses == excesses_of(window, precision, weights, sizes)
+
+
 def scaled(weight, p):
     """weight x 2^p as binary64, then rounded half away from zero; an infinity is beyond every integer type."""
     x = weight * 2.0**p
@@ -25,10 +35,10 @@ def scaled(weight, p):
     return -n if x < 0 else n
 
 
-def normalize(bits, limit, lines, window, patterns, starts, sizes, out):
+def normalize(bits, limit, lines, window, patterns, starts, sizes, out, excesses):
     if not sides(lines, starts):
         return 1, 0
-    if len(out) < len(starts) * window:
+    if len(out) < len(starts) * window or len(excesses) < len(starts):
         return 7, 0
     if not fits(lines, window, len(patterns), starts, sizes):
         return 10, 0
@@ -41,11 +51,12 @@ def normalize(bits, limit, lines, window, patterns, starts, sizes, out):
     if p < 4 or not all(-(2**limit) <= n < 2**limit for n in made):
         return 9, 0
     out[: len(made)] = made
+    excesses[: len(starts)] = excesses_of(window, p, made, sizes)
     return 0, p
 
 
 def shape(lines, row, first, count, window, slots, starts, sizes, samples, out):
-    """The number of a pass, but for precision and No. 12."""
+    """The number of a pass, but for precision, excesses, No. 9 and No. 12."""
     if not (sides(lines, starts) and 1 <= row <= 32768):
         return 1
     good = samples == lines * row and out == len(starts) * count and first + count <= row and fits(lines, window, slots, starts, sizes)
@@ -59,9 +70,9 @@ def used(row, first, count, window, starts, sizes):
             yield [(i * window + k, (s + k) * row + c) for k in range(n)]
 
 
-def u16_pass(lines, row, first, count, window, precision, weights, starts, sizes, samples, out):
+def u16_pass(lines, row, first, count, window, precision, weights, starts, sizes, excesses, samples, out):
     no = shape(lines, row, first, count, window, len(weights), starts, sizes, len(samples), len(out))
-    if no or not 4 <= precision <= 45:
+    if no or not stored(45, lines, window, precision, weights, starts, sizes, excesses):
         return no or 10
     half = 2 ** (precision - 1)
     for at, places in enumerate(used(row, first, count, window, starts, sizes)):
@@ -69,9 +80,9 @@ def u16_pass(lines, row, first, count, window, precision, weights, starts, sizes
     return 0
 
 
-def u8_pass(lines, row, first, count, window, precision, weights, starts, sizes, samples, out):
+def u8_pass(lines, row, first, count, window, precision, weights, starts, sizes, excesses, samples, out):
     no = shape(lines, row, first, count, window, len(weights), starts, sizes, len(samples), len(out))
-    if no or not 4 <= precision <= 21:
+    if no or not stored(21, lines, window, precision, weights, starts, sizes, excesses):
         return no or 10
     half = 2 ** (precision - 1)
     for i, n in enumerate(sizes):
@@ -123,14 +134,15 @@ def pixels(one, source, out):
     return 0
 
 
-def sheet(kind, lines, window, store, precision, weights, starts, sizes, out):
+def sheet(kind, lines, window, store, precision, weights, starts, sizes, excesses, out):
     if not sides(lines, starts):
         return 1, 0
-    if not (4 <= precision <= (21 if store == 16 else 45) and fits(lines, window, len(weights), starts, sizes)):
+    if not stored(21 if store == 16 else 45, lines, window, precision, weights, starts, sizes, excesses):
         return 10, 0
     text = "kind=%s\nin=%d\nout=%d\nwindow=%d\nstore=%d\nprecision=%d\n" % (kind, lines, len(starts), window, store, precision)
     for i, (s, n) in enumerate(zip(starts, sizes)):
         text += "w%d=%d,%d:%s\n" % (i, s, n, ",".join(map(str, weights[i * window: i * window + n])))
+    text += "excess=%s\n" % ",".join(map(str, excesses))
     if len(out) < len(text):
         return 11, 0
     out[: len(text)] = text.encode()

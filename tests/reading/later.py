@@ -1,5 +1,5 @@
-"""What the requests of document 02 change in the reading. Each is a function that puts it in force; `run --with W-207,W-208` calls them, in the order of their numbers.
-From W-208 on a request takes W-207 to be in force. When one lands, its lines move to lines.py.
+"""What the requests of document 02 change in the reading. Each is a function that puts it in force; `run --with W-208,W-209` calls them, in the order of their numbers.
+When one lands, its lines move to lines.py.
 
 Written from document 02, the decisions on its open points and the protocol alone."""
 from fractions import Fraction
@@ -9,74 +9,9 @@ import lines
 import numbers_of_bits as numbers
 import reader
 import weights
-from lines import REQUESTS, SET, LISTS, b64, bytes_of, i16, lent, listed, number, passed, show, u8, u16, u32
+from lines import REQUESTS, LISTS, EXCESSES, b64, bytes_of, i16, lent, listed, number, passed, show, u16, u32
 
 
-# W-207: each window's excess, the total of its weights in use less 2^precision.
-
-i64 = number(-(2**63), 2**63 - 1, "not an i64")
-EXCESSES = listed(i64)
-
-
-def excesses_of(window, precision, ws, sizes):
-    return [sum(ws[i * window:i * window + n]) - 2**precision for i, n in enumerate(sizes)]
-
-
-def normalized(bits, limit):
-    def answer(count, window, ws, starts, sizes, out, excesses):
-        if frames.sides(count, starts) and len(excesses) < len(starts):
-            no, p = 7, 0
-        else:
-            no, p = frames.normalize(bits, limit, count, window, ws, starts, sizes, out)
-        if no == 0:
-            excesses[: len(starts)] = excesses_of(window, p, out, sizes)
-        return "%d %d %s %s" % (no, p, show(out), show(excesses))
-    return answer
-
-
-def knows_excesses(of):
-    """A pass: a wrong excess, or another number of them, is No. 10; what comes after 10 comes after it."""
-    def answer(count, row, first, columns, window, precision, ws, starts, sizes, excesses, samples, out):
-        no = frames.shape(count, row, first, columns, window, len(ws), starts, sizes, len(samples), len(out))
-        if no == 0 and 4 <= precision <= 45 and excesses != excesses_of(window, precision, ws, sizes):
-            no = 10
-        return no or of(count, row, first, columns, window, precision, ws, starts, sizes, samples, out)
-    return answer
-
-
-def sheet_text(kind, count, window, store, precision, ws, starts, sizes):
-    out = [0] * (200 + 12 * len(ws) + 40 * len(starts))
-    no, n = frames.sheet(kind, count, window, store, precision, ws, starts, sizes, out)
-    return no, bytes(out[:n]).decode()
-
-
-def sheet(kind, count, window, store, precision, ws, starts, sizes, excesses, out):
-    no, text = sheet_text(kind, count, window, store, precision, ws, starts, sizes)
-    if no == 0 and excesses != excesses_of(window, precision, ws, sizes):
-        no = 10
-    text += "excess=%s\n" % ",".join(map(str, excesses))
-    if no == 0 and len(out) < len(text):
-        no = 11
-    if no == 0:
-        out[: len(text)] = text.encode()
-    return "%d %d %s" % (no, len(text) if no == 0 else 0, "".join("%02x" % v for v in out) or "-")
-
-
-def was_read_whole(stores):
-    def answer(text, slots, starts, sizes, excesses):
-        no, byte, head = reader.read(stores, text, slots, starts, sizes, excesses)
-        return "%d %d %s %s %s %s %s" % (no, byte, " ".join(map(str, head)), show(slots), show(starts), show(sizes), show(excesses))
-    return answer
-
-
-def w207():
-    for name, store in (("norm16", (22, 15)), ("norm32", (46, 31))):
-        REQUESTS[name] = (SET + (listed(b64),) + LISTS + (lent(), lent()), normalized(*store))
-    REQUESTS["u16pass"] = ((u32,) * 6 + (listed(lines.i32),) + LISTS + (EXCESSES, listed(u16), lent()), passed(knows_excesses(frames.u16_pass), "%d"))
-    REQUESTS["u8pass"] = ((u32,) * 6 + (listed(i16),) + LISTS + (EXCESSES, listed(u8), lent()), passed(knows_excesses(frames.u8_pass), "%d"))
-    lines.SHEET = ((EXCESSES, lent(524288)), sheet)
-    for name, stores in (("read", (16, 32)), ("read16", (16,))):
-        REQUESTS[name] = ((bytes_of,) + (lent(),) * 4, was_read_whole(stores))
 
 
 # W-208: offered repairs.
@@ -85,8 +20,7 @@ def stored_set(top, count, window, precision, ws, starts, sizes, excesses):
     """1 and 10 of a stored set."""
     if not frames.sides(count, starts):
         return 1
-    good = frames.fits(count, window, len(ws), starts, sizes) and 4 <= precision <= (21 if top == 2**15 else 45)
-    return 0 if good and excesses == excesses_of(window, precision, ws, sizes) else 10
+    return 0 if frames.stored(21 if top == 2**15 else 45, count, window, precision, ws, starts, sizes, excesses) else 10
 
 
 def in_use(window, sizes):
@@ -97,7 +31,7 @@ def accept(store, count, window, precision, ws, starts, sizes, excesses, offered
     no = stored_set(2 ** (store - 1), count, window, precision, ws, starts, sizes, excesses)
     if no == 0:
         same = (window, precision, starts, sizes, len(ws)) == (offered_window, offered_precision, offered_starts, offered_sizes, len(offered))
-        good = same and all(abs(offered[k] - ws[k]) <= 1 for k in in_use(window, sizes)) and not any(excesses_of(window, precision, offered, sizes))
+        good = same and all(abs(offered[k] - ws[k]) <= 1 for k in in_use(window, sizes)) and not any(frames.excesses_of(window, precision, offered, sizes))
         no = 0 if good else 14
     if no == 0:
         for k in in_use(window, sizes):
@@ -134,7 +68,7 @@ def by_store(fields, of):
 
 
 def w208():
-    stored = lambda weight: (u32, u32, u32, weight) + LISTS + (EXCESSES,)
+    stored = lambda weight: (u32, u32, u32, weight) + LISTS + EXCESSES
     lines.WHOLE["accept"] = by_store(lambda weight: stored(weight) + (u32, u32) + LISTS + (weight,), accept)
     lines.WHOLE["offer"] = by_store(lambda weight: stored(weight) + (lent(),), offer)
 
@@ -159,17 +93,17 @@ class Store:
         slots, starts, sizes = [0] * self.shares[client], [0] * 8192, [0] * 8192
         no, line, window = weights.build(kind, adapts, axis, sw, sh, out, box, slots, starts, sizes)
         if no == 0:
-            made, n = [0] * (window * out), window * out
-            no, p = frames.normalize(46, 31, (sw, sh)[axis], window, slots[:n], starts[:out], sizes[:out], made)
+            made, excesses, n = [0] * (window * out), [0] * out, window * out
+            no, p = frames.normalize(46, 31, (sw, sh)[axis], window, slots[:n], starts[:out], sizes[:out], made, excesses)
             if no == 0:
-                self.sets[client] = ((sw, sh)[axis], window, p, made, starts[:out], sizes[:out])
+                self.sets[client] = ((sw, sh)[axis], window, p, made, starts[:out], sizes[:out], excesses)
         return "%d:%d:%d" % (no, line if no == 8 else 0, window if no == 0 else 0)
 
     def run(self, client, row, first, count, samples, out):
         if client > 1 or self.sets[client] is None:
             return "10:" + show(out)
-        side, window, p, ws, starts, sizes = self.sets[client]
-        return "%d:%s" % (frames.u16_pass(side, row, first, count, window, p, ws, starts, sizes, samples, out), show(out))
+        side, window, p, ws, starts, sizes, excesses = self.sets[client]
+        return "%d:%s" % (frames.u16_pass(side, row, first, count, window, p, ws, starts, sizes, excesses, samples, out), show(out))
 
 
 def retired(kind):
@@ -199,7 +133,7 @@ def w209():
 def story(count, row, window, precision, ws, starts, sizes, excesses, samples, line, column, out):
     windows = len(starts)
     no = frames.shape(count, row, 0, 0, window, len(ws), starts, sizes, len(samples), 0)
-    if no == 0 and not (4 <= precision <= 45 and excesses == excesses_of(window, precision, ws, sizes) and line < windows and column < row):
+    if no == 0 and not (frames.stored(45, count, window, precision, ws, starts, sizes, excesses) and line < windows and column < row):
         no = 10
     text = ""
     if no == 0:
@@ -219,7 +153,7 @@ def story(count, row, window, precision, ws, starts, sizes, excesses, samples, l
 
 
 def w210():
-    REQUESTS["story"] = ((u32,) * 4 + (listed(lines.i32),) + LISTS + (EXCESSES, listed(u16), u32, u32, lent(524288)), story)
+    REQUESTS["story"] = ((u32,) * 4 + (listed(lines.i32),) + LISTS + EXCESSES + (listed(u16), u32, u32, lent(524288)), story)
 
 
 # W-211: no new set is built with Mitchell.
@@ -246,7 +180,7 @@ def book(text):
     sheets, excesses, precisions, negative, stopped, at = 0, [], [], 0, 0, 0
     while at < len(text) and not stopped:
         try:
-            _, (_, p, _, _, rows, found), at = reader.one(text, at, (16, 32), True)
+            _, (_, p, _, _, rows, found), at = reader.one(text, at, (16, 32))
         except reader.Stop:
             stopped = 13
             continue
@@ -269,7 +203,7 @@ def sideways(components, rows, row, first, count, window, precision, ws, starts,
         return 1
     pixels, windows = row // components, len(starts)
     no = frames.shape(pixels, rows * components, first * components, count * components, window, len(ws), starts, sizes, len(samples), len(out))
-    if no or not 4 <= precision <= 45 or excesses != excesses_of(window, precision, ws, sizes):
+    if no or not frames.stored(45, pixels, window, precision, ws, starts, sizes, excesses):
         return no or 10
     half = 2 ** (precision - 1)
     for y in range(count):
@@ -281,8 +215,8 @@ def sideways(components, rows, row, first, count, window, precision, ws, starts,
 
 
 def w214():
-    REQUESTS["sideways"] = ((u32,) * 7 + (listed(lines.i32),) + LISTS + (EXCESSES, listed(u16), lent()), passed(sideways, "%d"))
+    REQUESTS["sideways"] = ((u32,) * 7 + (listed(lines.i32),) + LISTS + EXCESSES + (listed(u16), lent()), passed(sideways, "%d"))
 
 
 IN_FORCE = set()
-LANDS = {"W-207": w207, "W-208": w208, "W-209": w209, "W-210": w210, "W-211": w211, "W-213": w213, "W-214": w214}
+LANDS = {"W-208": w208, "W-209": w209, "W-210": w210, "W-211": w211, "W-213": w213, "W-214": w214}

@@ -52,7 +52,7 @@ def bytes_of(word):
 
 
 u8, u16, u32 = number(0, 255, "not a u8"), number(0, 65535, "not a u16"), number(0, 2**32 - 1, "not a u32")
-i16, i32 = number(-(2**15), 2**15 - 1, "not an i16"), number(-(2**31), 2**31 - 1, "not an i32")
+i16, i32, i64 = number(-(2**15), 2**15 - 1, "not an i16"), number(-(2**31), 2**31 - 1, "not an i32"), number(-(2**63), 2**63 - 1, "not an i64")
 b32, b64, flag = digits(8), digits(16), lambda word: int(one_of("not 0 or 1", "0", "1")(word))
 kind, store = lambda word: word, one_of("not 16 or 32", "16", "32")  # a filter's name is looked up when all other words are right
 
@@ -81,7 +81,7 @@ def built(k, adapts, axis, sw, sh, out, left, top, w, h, slots, starts, sizes):
 
 
 def normalized(bits, limit):
-    return lambda lines, window, ws, starts, sizes, out: "%d %d %s" % (*frames.normalize(bits, limit, lines, window, ws, starts, sizes, out), show(out))
+    return lambda *a: "%d %d %s %s" % (*frames.normalize(bits, limit, *a), show(a[-2]), show(a[-1]))
 
 
 def passed(of, form):
@@ -97,9 +97,9 @@ def sheet(*a):
 
 
 def was_read(stores):
-    def answer(text, slots, starts, sizes):
-        no, byte, head = reader.read(stores, text, slots, starts, sizes)
-        return "%d %d %s %s %s %s" % (no, byte, " ".join(map(str, head)), show(slots), show(starts), show(sizes))
+    def answer(text, *lists):
+        no, byte, head = reader.read(stores, text, *lists)
+        return " ".join(map(str, (no, byte, *head))) + "".join(" " + show(l) for l in lists)
     return answer
 
 
@@ -121,7 +121,7 @@ def pattern_of(of, form):
     return lambda b: form % of(b)
 
 
-SET, LISTS = (u32, u32), (listed(u32), listed(u32))
+SET, LISTS, EXCESSES = (u32, u32), (listed(u32), listed(u32)), (listed(i64),)
 REQUESTS = {name: ((b64,), pattern_of(of, "%016x")) for name, of in
             (("abs", numbers.absolute), ("floor", numbers.floor), ("ceil", numbers.ceil), ("round", numbers.half_away))}
 REQUESTS |= {
@@ -129,15 +129,15 @@ REQUESTS |= {
     "clip8": ((i32,), lambda n: str(min(max(n, 0), 255))), "filter": ((kind, b64), filtered),
     "crop": ((u32, u32) + (b64,) * 4, lambda w, h, *box: str(weights.crop(w, h, box))),
     "build": ((kind, flag, flag, u32, u32, u32) + (b64,) * 4 + (doubles, lent(), lent()), built),
-    "norm16": (SET + (listed(b64),) + LISTS + (lent(),), normalized(22, 15)), "norm32": (SET + (listed(b64),) + LISTS + (lent(),), normalized(46, 31)),
-    "u16pass": ((u32,) * 6 + (listed(i32),) + LISTS + (listed(u16), lent()), passed(frames.u16_pass, "%d")),
-    "u8pass": ((u32,) * 6 + (listed(i16),) + LISTS + (listed(u8), lent()), passed(frames.u8_pass, "%d")),
+    "norm16": (SET + (listed(b64),) + LISTS + (lent(), lent()), normalized(22, 15)), "norm32": (SET + (listed(b64),) + LISTS + (lent(), lent()), normalized(46, 31)),
+    "u16pass": ((u32,) * 6 + (listed(i32),) + LISTS + EXCESSES + (listed(u16), lent()), passed(frames.u16_pass, "%d")),
+    "u8pass": ((u32,) * 6 + (listed(i16),) + LISTS + EXCESSES + (listed(u8), lent()), passed(frames.u8_pass, "%d")),
     "f32pass": ((u32,) * 5 + (listed(b64),) + LISTS + (listed(b32), lent(made=lambda v: numbers.narrow(numbers.pattern(float(v))))), counted),
     "mul8": ((listed(u8), lent()), pixels(frames.multiplied)), "div8": ((listed(u8), lent()), pixels(frames.divided)),
     "mul8in": ((listed(u8),), pixels(frames.multiplied)), "div8in": ((listed(u8),), pixels(frames.divided)),
     "mul16": ((listed(u16), lent()), pixels(frames.multiplied16)), "div16": ((listed(u16), lent()), pixels(frames.divided16)),
     "mul16in": ((listed(u16),), pixels(frames.multiplied16)), "div16in": ((listed(u16),), pixels(frames.divided16)),
-    "read": ((bytes_of, lent(), lent(), lent()), was_read((16, 32))), "read16": ((bytes_of, lent(), lent(), lent()), was_read((16,))),
+    "read": ((bytes_of,) + (lent(),) * 4, was_read((16, 32))), "read16": ((bytes_of,) + (lent(),) * 4, was_read((16,))),
 }
 
 
@@ -158,7 +158,6 @@ def values(words, reads):
     return made
 
 
-SHEET = ((lent(524288),), sheet)  # the fields of a sheet after its sizes
 WHOLE = {}  # requests that read their words themselves
 
 
@@ -171,9 +170,8 @@ def request(words):
         if words[4:5] not in (["16"], ["32"]):
             values(words[:5], (str, u32, u32, store))
         bits = int(words[4])
-        ends, of = SHEET
-        reads = (kind, u32, u32, lambda word: bits, u32, listed(i16 if bits == 16 else i32)) + LISTS + ends
-        return of(*values(words, reads))
+        reads = (kind, u32, u32, lambda word: bits, u32, listed(i16 if bits == 16 else i32)) + LISTS + EXCESSES + (lent(524288),)
+        return sheet(*values(words, reads))
     if words[0] in WHOLE:
         return WHOLE[words[0]](words)
     if words[0] not in REQUESTS:

@@ -1,4 +1,4 @@
-"""The sheet read back (W-203): which texts are sheets, and where a text stops being the beginning of one.
+"""The sheet read back (W-203, W-207): which texts are sheets, and where a text stops being the beginning of one.
 
 A sheet is a row of pieces, each a finite choice of texts: fixed bytes, a name, or a number of a range with the byte that ends it. A choice of later pieces depends on what was
 read, and every right beginning can be completed (a window `0,1:0` always fits), so the longest beginning of a sheet ends in the first piece that has no choice, at
@@ -64,8 +64,8 @@ def head(text, at):
     return (*found, at)
 
 
-def rest(text, at, stores, lines, windows, window, excesses):
-    """Store, precision and the windows: starts, sizes and rows of weights; since W-207 the line of their excesses, which has one right text; and the place after the sheet."""
+def rest(text, at, stores, lines, windows, window):
+    """Store, precision and the windows: starts, sizes and rows of weights; the line of their excesses, which has one right text; and the place after the sheet."""
     store, at = one_of(text, at, [(s, b"store=%d\n" % s) for s in stores])
     _, at = one_of(text, at, [(None, b"precision=")])
     precision, at = number(text, at, 4, 21 if store == 16 else 45, b"\n")
@@ -80,32 +80,29 @@ def rest(text, at, stores, lines, windows, window, excesses):
             row.append(w)
         starts, sizes, rows = starts + [start], sizes + [size], rows + [row]
     found = [sum(row) - 2**precision for row in rows]
-    if excesses:
-        _, at = one_of(text, at, [(None, b"excess=%s\n" % ",".join(map(str, found)).encode())])
+    _, at = one_of(text, at, [(None, b"excess=%s\n" % ",".join(map(str, found)).encode())])
     return (store, precision, starts, sizes, rows, found), at
 
 
-def one(text, at, stores, excesses):
+def one(text, at, stores):
     """A sheet at a place of a text: its head, the rest, and the place after it."""
     kind, lines, windows, window, at = head(text, at)
-    made, at = rest(text, at, stores, lines, windows, window, excesses)
+    made, at = rest(text, at, stores, lines, windows, window)
     return (kind, lines, windows, window), made, at
 
 
-def read(stores, text, slots, starts, sizes, excesses=None):
-    """Writes the lists; with places for excesses as since W-207. Number, byte, and the head: kind, lines, window size, store, precision, windows."""
+def read(stores, text, slots, starts, sizes, excesses):
+    """Writes the lists. Number, byte, and the head: kind, lines, window size, store, precision, windows."""
     nothing = ("-", 0, 0, 0, 0, 0)
     try:
         _, _, windows, window, _ = head(text, 0)
-        if len(slots) < windows * window or min(map(len, (starts, sizes) + (() if excesses is None else (excesses,)))) < windows:
+        if len(slots) < windows * window or min(map(len, (starts, sizes, excesses))) < windows:
             return 7, 0, nothing
-        (kind, lines, _, _), (store, precision, first, count, rows, found), at = one(text, 0, stores, excesses is not None)
+        (kind, lines, _, _), (store, precision, first, count, rows, found), at = one(text, 0, stores)
         if at != len(text):
             raise Stop(at)
     except Stop as stop:
         return 13, stop.args[0], nothing
     slots[: windows * window] = [w for row in rows for w in row + [0] * (window - len(row))]
-    starts[:windows], sizes[:windows] = first, count
-    if excesses is not None:
-        excesses[:windows] = found
+    starts[:windows], sizes[:windows], excesses[:windows] = first, count, found
     return 0, 0, (kind, lines, window, store, precision, windows)

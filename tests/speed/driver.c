@@ -47,6 +47,7 @@ static uint32_t starts[8192], sizes[8192], made_starts[8192], made_sizes[8192];
 static int32_t weights[SLOTS];
 static int16_t made16[SLOTS];
 static int32_t made32[SLOTS];
+static int64_t over[8192]; /* each window's excess, which the Rust does not have */
 static uint64_t seed = 88172645463325252u;
 
 static uint32_t next(void)
@@ -161,11 +162,16 @@ static void pass(int floats, int taps, uint32_t row, int port, int runs)
     uint32_t window = given_set(kind, side, out, slots, starts, sizes);
     uint32_t precision = given_integers(kind, side, out, weights);
     size_t count = (size_t)window * out;
+    for (size_t i = 0; i < out; i++) {
+        over[i] = -((int64_t)1 << precision);
+        for (size_t k = 0; k < sizes[i]; k++)
+            over[i] += weights[i * window + k];
+    }
     for (int i = 0; i < runs; i++) {
         if (floats)
             no = mirror_vertical_f32(real, samples, side, row, 0, row, slots, count, starts, out, sizes, out, window, (float *)written, items, &infinite);
         else
-            no = mirror_vertical_u16(whole, samples, side, row, 0, row, weights, count, starts, out, sizes, out, window, precision,
+            no = mirror_vertical_u16(whole, samples, side, row, 0, row, weights, count, starts, out, sizes, out, over, out, window, precision,
                                      (uint16_t *)written, items);
     }
     end(items * (floats ? 4 : 2), items, no);
@@ -182,12 +188,12 @@ static void bytes(int taps, uint32_t row, int port, int runs)
     missing_if(!mirror_vertical_u8 || !mirror_normalize16);
     uint32_t window = given_set(kind, side, out, slots, starts, sizes);
     size_t count = (size_t)window * out;
-    if (mirror_normalize16(side, window, slots, count, starts, out, sizes, out, made16, count, &precision) != MIRROR_DONE)
+    if (mirror_normalize16(side, window, slots, count, starts, out, sizes, out, made16, count, over, out, &precision) != MIRROR_DONE)
         exit(2);
     if (!port)
         given(given_u8(side, out, row, whole, window, precision, made16, starts, sizes), runs, items);
     for (int i = 0; i < runs; i++)
-        no = mirror_vertical_u8(whole, samples, side, row, 0, row, made16, count, starts, out, sizes, out, window, precision, written, items);
+        no = mirror_vertical_u8(whole, samples, side, row, 0, row, made16, count, starts, out, sizes, out, over, out, window, precision, written, items);
     end(items, items, no);
 }
 
@@ -216,9 +222,9 @@ static void normalize(int bits, uint32_t kind, uint32_t side, uint32_t out, int 
     missing_if(bits == 16 ? !mirror_normalize16 : !mirror_normalize32);
     for (int i = 0; i < runs; i++) {
         if (bits == 16)
-            no = mirror_normalize16(side, window, slots, count, starts, out, sizes, out, made16, count, &precision);
+            no = mirror_normalize16(side, window, slots, count, starts, out, sizes, out, made16, count, over, out, &precision);
         else
-            no = mirror_normalize32(side, window, slots, count, starts, out, sizes, out, made32, count, &precision);
+            no = mirror_normalize32(side, window, slots, count, starts, out, sizes, out, made32, count, over, out, &precision);
     }
     memcpy(written, bits == 16 ? (void *)made16 : (void *)made32, count * width);
     memcpy(written + count * width, &precision, 4);

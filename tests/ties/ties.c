@@ -71,7 +71,10 @@ int main(int argc, char **argv)
             for (uint32_t j = 0; j < row; j++)
                 near_tie(weights, lines, frame, row, j, p);
         }
-        uint32_t no = mirror_vertical_u16(frame, lines * row, lines, row, first, columns, weights, lines, nought, 1, &lines, 1, lines, p, out, columns);
+        int64_t over = -((int64_t)1 << p);
+        for (uint32_t i = 0; i < lines; i++)
+            over += weights[i];
+        uint32_t no = mirror_vertical_u16(frame, lines * row, lines, row, first, columns, weights, lines, nought, 1, &lines, 1, &over, 1, lines, p, out, columns);
         for (uint32_t j = 0; j < columns; j++)
             if (no != MIRROR_DONE || out[j] != formula(sum(weights, lines, frame, row, first + j), p)) {
                 if (wrong++ < 10)

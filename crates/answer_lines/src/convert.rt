@@ -28,8 +28,8 @@ pub(crate) fn from_u32(x: u32) -> Shown {
     decimal(x as u64)
 }
 
-// The size of an i32.
-pub fn size(v: i32) -> u64 {
+// The size of an i64.
+pub fn size(v: i64) -> u64 {
     if v < 0 {
         return ((-1 - v) as u64) + 1;
     }
@@ -37,10 +37,14 @@ pub fn size(v: i32) -> u64 {
 }
 
 pub(crate) fn from_i16(x: i16) -> Shown {
-    from_i32(x as i32)
+    from_i64(x as i64)
 }
 
 pub(crate) fn from_i32(x: i32) -> Shown {
+    from_i64(x as i64)
+}
+
+pub(crate) fn from_i64(x: i64) -> Shown {
     Shown {
         below: x < 0,
         size: size(x),

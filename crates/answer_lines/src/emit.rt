@@ -78,7 +78,7 @@ pub fn next_double(v: f64, n: usize, out: &mut [u8]) -> usize {
 }
 
 // A comma before every element but the first.
-fn comma(i: usize, n: usize, out: &mut [u8]) -> usize {
+pub(crate) fn comma(i: usize, n: usize, out: &mut [u8]) -> usize {
     if i == 0 {
         return n;
     }

@@ -35,6 +35,10 @@ pub mod i32s {
     pub use crate::shown::show_i32 as show;
 }
 
+pub mod i64s {
+    pub use crate::shown::show_i64 as show;
+}
+
 pub mod f32s {
     pub use crate::shown::show_f32 as show;
 }

@@ -17,15 +17,16 @@ pub fn answer(
     sizes: &mut [u32],
     narrow: &mut [i16],
     wide: &mut [i32],
+    excesses: &mut [i64],
 ) -> Said {
     if s.done {
         return s;
     }
     if fields::is(line, 0, b"norm16") {
-        return norm16::of_line(line, s.n, out, weights, starts, sizes, narrow);
+        return norm16::of_line(line, s.n, out, weights, starts, sizes, narrow, excesses);
     }
     if fields::is(line, 0, b"norm32") {
-        return norm32::of_line(line, s.n, out, weights, starts, sizes, wide);
+        return norm32::of_line(line, s.n, out, weights, starts, sizes, wide, excesses);
     }
     s
 }

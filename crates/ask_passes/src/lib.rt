@@ -13,6 +13,7 @@ pub fn answer_u16(
     weights: &mut [i32],
     starts: &mut [u32],
     sizes: &mut [u32],
+    excesses: &mut [i64],
     samples: &mut [u16],
     lent: &mut [u16],
 ) -> Said {
@@ -20,7 +21,17 @@ pub fn answer_u16(
         return s;
     }
     if fields::is(line, 0, b"u16pass") {
-        return u16pass::of_line(line, s.n, out, weights, starts, sizes, samples, lent);
+        return u16pass::of_line(
+            line,
+            s.n,
+            out,
+            weights,
+            starts,
+            sizes,
+            excesses,
+            samples,
+            lent,
+        );
     }
     s
 }

@@ -1,8 +1,9 @@
-// u16pass LINES ROW FIRST COUNT WINDOW PRECISION WEIGHTS STARTS SIZES SAMPLES NOUT
+// u16pass LINES ROW FIRST COUNT WINDOW PRECISION WEIGHTS STARTS SIZES EXCESSES SAMPLES NOUT
 use answer_lines::Said;
 use answer_lines::emit;
 use request_fields::fields;
 use request_fields::i32s;
+use request_fields::i64s;
 use request_fields::u16s;
 use request_fields::u32s;
 use vertical::Frame;
@@ -15,10 +16,11 @@ pub(crate) fn of_line(
     weights: &mut [i32],
     starts: &mut [u32],
     sizes: &mut [u32],
+    excesses: &mut [i64],
     samples: &mut [u16],
     lent: &mut [u16],
 ) -> Said {
-    let f = request_fields::first_fault(line, b"wwwwwwJWWHn");
+    let f = request_fields::first_fault(line, b"wwwwwwJWWQHn");
     if f.reason != 0 {
         return answer_lines::told(answer_lines::bad(f.word, f.reason, n, out));
     }
@@ -26,11 +28,13 @@ pub(crate) fn of_line(
     let slots = i32s::read(line, 7, weights);
     let i = u32s::read(line, 8, starts);
     let j = u32s::read(line, 9, sizes);
+    let k = i64s::read(line, 10, excesses);
     framed(
         line,
         &weights[a..slots],
         &starts[a..i],
         &sizes[a..j],
+        &excesses[a..k],
         samples,
         lent,
         n,
@@ -44,19 +48,21 @@ fn framed(
     weights: &[i32],
     starts: &[u32],
     sizes: &[u32],
+    excesses: &[i64],
     samples: &mut [u16],
     lent: &mut [u16],
     n: usize,
     out: &mut [u8],
 ) -> Said {
     let a: usize = 0;
-    let l = u16s::read(line, 10, samples);
-    let m = u16s::lend(line, 11, lent);
+    let l = u16s::read(line, 11, samples);
+    let m = u16s::lend(line, 12, lent);
     pass(
         line,
         weights,
         starts,
         sizes,
+        excesses,
         &samples[a..l],
         &mut lent[a..m],
         n,
@@ -70,6 +76,7 @@ fn pass(
     weights: &[i32],
     starts: &[u32],
     sizes: &[u32],
+    excesses: &[i64],
     samples: &[u16],
     lent: &mut [u16],
     n: usize,
@@ -86,6 +93,7 @@ fn pass(
         weights,
         starts,
         sizes,
+        excesses,
         fields::whole(line, 5),
         fields::whole(line, 6),
         lent,

@@ -1,8 +1,9 @@
-// The request `u8pass LINES ROW FIRST COUNT WINDOW PRECISION WEIGHTS STARTS SIZES SAMPLES NOUT`, answered by `vertical_u8`.
+// The request `u8pass LINES ROW FIRST COUNT WINDOW PRECISION WEIGHTS STARTS SIZES EXCESSES SAMPLES NOUT`, answered by `vertical_u8`.
 use answer_lines::Said;
 use answer_lines::emit;
 use request_fields::fields;
 use request_fields::i16s;
+use request_fields::i64s;
 use request_fields::u8s;
 use request_fields::u32s;
 use vertical::Frame;
@@ -15,6 +16,7 @@ pub fn answer(
     weights: &mut [i16],
     starts: &mut [u32],
     sizes: &mut [u32],
+    excesses: &mut [i64],
     samples: &mut [u8],
     lent: &mut [u8],
 ) -> Said {
@@ -22,7 +24,17 @@ pub fn answer(
         return s;
     }
     if fields::is(line, 0, b"u8pass") {
-        return of_line(line, s.n, out, weights, starts, sizes, samples, lent);
+        return of_line(
+            line,
+            s.n,
+            out,
+            weights,
+            starts,
+            sizes,
+            excesses,
+            samples,
+            lent,
+        );
     }
     s
 }
@@ -35,10 +47,11 @@ fn of_line(
     weights: &mut [i16],
     starts: &mut [u32],
     sizes: &mut [u32],
+    excesses: &mut [i64],
     samples: &mut [u8],
     lent: &mut [u8],
 ) -> Said {
-    let f = request_fields::first_fault(line, b"wwwwwwIWWBn");
+    let f = request_fields::first_fault(line, b"wwwwwwIWWQBn");
     if f.reason != 0 {
         return answer_lines::told(answer_lines::bad(f.word, f.reason, n, out));
     }
@@ -46,11 +59,13 @@ fn of_line(
     let slots = i16s::read(line, 7, weights);
     let i = u32s::read(line, 8, starts);
     let j = u32s::read(line, 9, sizes);
+    let k = i64s::read(line, 10, excesses);
     framed(
         line,
         &weights[a..slots],
         &starts[a..i],
         &sizes[a..j],
+        &excesses[a..k],
         samples,
         lent,
         n,
@@ -64,19 +79,21 @@ fn framed(
     weights: &[i16],
     starts: &[u32],
     sizes: &[u32],
+    excesses: &[i64],
     samples: &mut [u8],
     lent: &mut [u8],
     n: usize,
     out: &mut [u8],
 ) -> Said {
     let a: usize = 0;
-    let l = u8s::read(line, 10, samples);
-    let m = u8s::lend(line, 11, lent);
+    let l = u8s::read(line, 11, samples);
+    let m = u8s::lend(line, 12, lent);
     pass(
         line,
         weights,
         starts,
         sizes,
+        excesses,
         &samples[a..l],
         &mut lent[a..m],
         n,
@@ -90,6 +107,7 @@ fn pass(
     weights: &[i16],
     starts: &[u32],
     sizes: &[u32],
+    excesses: &[i64],
     samples: &[u8],
     lent: &mut [u8],
     n: usize,
@@ -106,6 +124,7 @@ fn pass(
         weights,
         starts,
         sizes,
+        excesses,
         fields::whole(line, 5),
         fields::whole(line, 6),
         lent,

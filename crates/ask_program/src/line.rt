@@ -86,6 +86,7 @@ fn integers(line: &[u8], a: Said, out: &mut [u8]) -> Said {
     let mut sizes = [0u32; 131072];
     let mut narrow = [0i16; 131072];
     let mut wide = [0i32; 131072];
+    let mut excesses = [0i64; 131072];
     ask_normalizer::answer(
         line,
         a,
@@ -95,6 +96,7 @@ fn integers(line: &[u8], a: Said, out: &mut [u8]) -> Said {
         &mut sizes,
         &mut narrow,
         &mut wide,
+        &mut excesses,
     )
 }
 
@@ -117,6 +119,7 @@ fn frames(line: &[u8], a: Said, out: &mut [u8]) -> Said {
     let mut wide = [0i32; 131072];
     let mut starts = [0u32; 131072];
     let mut sizes = [0u32; 131072];
+    let mut excesses = [0i64; 131072];
     let mut samples = [0u16; 131072];
     let mut columns = [0u16; 131072];
     ask_passes::answer_u16(
@@ -126,6 +129,7 @@ fn frames(line: &[u8], a: Said, out: &mut [u8]) -> Said {
         &mut wide,
         &mut starts,
         &mut sizes,
+        &mut excesses,
         &mut samples,
         &mut columns,
     )
@@ -139,6 +143,7 @@ fn byte_frames(line: &[u8], a: Said, out: &mut [u8]) -> Said {
     let mut narrow = [0i16; 131072];
     let mut starts = [0u32; 131072];
     let mut sizes = [0u32; 131072];
+    let mut excesses = [0i64; 131072];
     let mut samples = [0u8; 131072];
     let mut columns = [0u8; 131072];
     ask_passes_u8::answer(
@@ -148,6 +153,7 @@ fn byte_frames(line: &[u8], a: Said, out: &mut [u8]) -> Said {
         &mut narrow,
         &mut starts,
         &mut sizes,
+        &mut excesses,
         &mut samples,
         &mut columns,
     )
@@ -184,6 +190,7 @@ fn sheets(line: &[u8], a: Said, out: &mut [u8]) -> Said {
     let mut wide = [0i32; 131072];
     let mut starts = [0u32; 131072];
     let mut sizes = [0u32; 131072];
+    let mut excesses = [0i64; 131072];
     let mut room = [0u8; 524288];
     ask_sheet::answer(
         line,
@@ -193,6 +200,7 @@ fn sheets(line: &[u8], a: Said, out: &mut [u8]) -> Said {
         &mut wide,
         &mut starts,
         &mut sizes,
+        &mut excesses,
         &mut room,
     )
 }
@@ -206,7 +214,17 @@ fn readings(line: &[u8], a: Said, out: &mut [u8]) -> Said {
     let mut wide = [0i32; 131072];
     let mut starts = [0u32; 131072];
     let mut sizes = [0u32; 131072];
-    ask_reader::answer(line, a, out, &mut text, &mut wide, &mut starts, &mut sizes)
+    let mut excesses = [0i64; 131072];
+    ask_reader::answer(
+        line,
+        a,
+        out,
+        &mut text,
+        &mut wide,
+        &mut starts,
+        &mut sizes,
+        &mut excesses,
+    )
 }
 
 // The lists of `ask_reader::answer16`, and nothing else: one call.
@@ -218,6 +236,7 @@ fn narrow_readings(line: &[u8], a: Said, out: &mut [u8]) -> Said {
     let mut narrow = [0i16; 131072];
     let mut starts = [0u32; 131072];
     let mut sizes = [0u32; 131072];
+    let mut excesses = [0i64; 131072];
     ask_reader::answer16(
         line,
         a,
@@ -226,6 +245,7 @@ fn narrow_readings(line: &[u8], a: Said, out: &mut [u8]) -> Said {
         &mut narrow,
         &mut starts,
         &mut sizes,
+        &mut excesses,
     )
 }
 

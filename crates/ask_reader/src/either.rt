@@ -2,6 +2,7 @@
 use answer_lines::Said;
 use answer_lines::emit;
 use request_fields::i32s;
+use request_fields::i64s;
 use request_fields::u8s;
 use request_fields::u32s;
 
@@ -14,13 +15,14 @@ pub(crate) fn of_line(
     weights: &mut [i32],
     starts: &mut [u32],
     sizes: &mut [u32],
+    excesses: &mut [i64],
 ) -> Said {
     let a: usize = 0;
     let e = u8s::read_hex(line, 1, text);
-    lists(line, n, out, &text[a..e], weights, starts, sizes)
+    lists(line, n, out, &text[a..e], weights, starts, sizes, excesses)
 }
 
-// The lists are lent as long as the last three words say.
+// Slots and starts, lent as long as NSLOTS and NSTARTS say.
 fn lists(
     line: &[u8],
     n: usize,
@@ -29,16 +31,43 @@ fn lists(
     weights: &mut [i32],
     starts: &mut [u32],
     sizes: &mut [u32],
+    excesses: &mut [i64],
 ) -> Said {
     let a: usize = 0;
     let i = i32s::lend(line, 2, weights);
     let j = u32s::lend(line, 3, starts);
-    let k = u32s::lend(line, 4, sizes);
-    read(
+    last_lists(
+        line,
+        n,
+        out,
         text,
         &mut weights[a..i],
         &mut starts[a..j],
+        sizes,
+        excesses,
+    )
+}
+
+// Sizes and excesses, by the last two words.
+fn last_lists(
+    line: &[u8],
+    n: usize,
+    out: &mut [u8],
+    text: &[u8],
+    weights: &mut [i32],
+    starts: &mut [u32],
+    sizes: &mut [u32],
+    excesses: &mut [i64],
+) -> Said {
+    let a: usize = 0;
+    let k = u32s::lend(line, 4, sizes);
+    let l = i64s::lend(line, 5, excesses);
+    read(
+        text,
+        weights,
+        starts,
         &mut sizes[a..k],
+        &mut excesses[a..l],
         n,
         out,
     )
@@ -50,12 +79,13 @@ fn read(
     weights: &mut [i32],
     starts: &mut [u32],
     sizes: &mut [u32],
+    excesses: &mut [i64],
     n: usize,
     out: &mut [u8],
 ) -> Said {
-    let answer = reader::read_sheet(text, weights, starts, sizes);
+    let answer = reader::read_sheet(text, weights, starts, sizes, excesses);
     let p = crate::head::shown(answer, n, out);
     let q = emit::byte(b' ', p, out);
     let r = answer_lines::i32s::show(weights, q, out);
-    crate::head::windows(starts, sizes, r, out)
+    crate::head::windows(starts, sizes, excesses, r, out)
 }

@@ -1,4 +1,4 @@
-// What an answer shows beside the weights: number, byte, what the head lines say, and the lists of starts and sizes.
+// What an answer shows beside the weights: number, byte, what the head lines say, and the lists of starts, sizes and excesses.
 use answer_lines::Said;
 use answer_lines::emit;
 use filters::FilterType;
@@ -41,10 +41,18 @@ fn name(kind: FilterType, n: usize, out: &mut [u8]) -> usize {
     }
 }
 
-// The lists of starts and sizes.
-pub(crate) fn windows(starts: &[u32], sizes: &[u32], n: usize, out: &mut [u8]) -> Said {
+// The lists of starts, sizes and excesses.
+pub(crate) fn windows(
+    starts: &[u32],
+    sizes: &[u32],
+    excesses: &[i64],
+    n: usize,
+    out: &mut [u8],
+) -> Said {
     let p = emit::byte(b' ', n, out);
     let q = answer_lines::u32s::show(starts, p, out);
     let r = emit::byte(b' ', q, out);
-    answer_lines::told(answer_lines::u32s::show(sizes, r, out))
+    let s = answer_lines::u32s::show(sizes, r, out);
+    let t = emit::byte(b' ', s, out);
+    answer_lines::told(answer_lines::i64s::show(excesses, t, out))
 }

@@ -1,4 +1,4 @@
-// The requests `read TEXT NSLOTS NSTARTS NSIZES`, a sheet of either store, and `read16` with the same fields, one of the 16-bit store, answered by
+// The requests `read TEXT NSLOTS NSTARTS NSIZES NEXCESSES`, a sheet of either store, and `read16` with the same fields, one of the 16-bit store, answered by
 // `reader`. A module for each list of weights that is lent; `head` shows what stands before the lists.
 mod either;
 mod head;
@@ -16,6 +16,7 @@ pub fn answer(
     weights: &mut [i32],
     starts: &mut [u32],
     sizes: &mut [u32],
+    excesses: &mut [i64],
 ) -> Said {
     if s.done {
         return s;
@@ -23,11 +24,11 @@ pub fn answer(
     if !fields::is(line, 0, b"read") {
         return s;
     }
-    let f = request_fields::first_fault(line, b"tnnn");
+    let f = request_fields::first_fault(line, b"tnnnn");
     if f.reason != 0 {
         return answer_lines::told(answer_lines::bad(f.word, f.reason, s.n, out));
     }
-    either::of_line(line, s.n, out, text, weights, starts, sizes)
+    either::of_line(line, s.n, out, text, weights, starts, sizes, excesses)
 }
 
 // The line's answer, where it is `read16`.
@@ -39,6 +40,7 @@ pub fn answer16(
     weights: &mut [i16],
     starts: &mut [u32],
     sizes: &mut [u32],
+    excesses: &mut [i64],
 ) -> Said {
     if s.done {
         return s;
@@ -46,9 +48,9 @@ pub fn answer16(
     if !fields::is(line, 0, b"read16") {
         return s;
     }
-    let f = request_fields::first_fault(line, b"tnnn");
+    let f = request_fields::first_fault(line, b"tnnnn");
     if f.reason != 0 {
         return answer_lines::told(answer_lines::bad(f.word, f.reason, s.n, out));
     }
-    narrow::of_line(line, s.n, out, text, weights, starts, sizes)
+    narrow::of_line(line, s.n, out, text, weights, starts, sizes, excesses)
 }

@@ -1,4 +1,4 @@
-// The request `sheet KIND LINES WINDOW STORE PRECISION WEIGHTS STARTS SIZES ROOM`, answered by `sheet`, with a module for each store.
+// The request `sheet KIND LINES WINDOW STORE PRECISION WEIGHTS STARTS SIZES EXCESSES ROOM`, answered by `sheet`, with a module for each store.
 mod store16;
 mod store32;
 
@@ -17,6 +17,7 @@ pub fn answer(
     wide: &mut [i32],
     starts: &mut [u32],
     sizes: &mut [u32],
+    excesses: &mut [i64],
     room: &mut [u8],
 ) -> Said {
     if s.done {
@@ -26,10 +27,10 @@ pub fn answer(
         return s;
     }
     if fields::is(line, 4, b"16") {
-        return store16::of_line(line, s.n, out, narrow, starts, sizes, room);
+        return store16::of_line(line, s.n, out, narrow, starts, sizes, excesses, room);
     }
     if fields::is(line, 4, b"32") {
-        return store32::of_line(line, s.n, out, wide, starts, sizes, room);
+        return store32::of_line(line, s.n, out, wide, starts, sizes, excesses, room);
     }
     let f = store_fault(line);
     answer_lines::told(answer_lines::bad(f.word, f.reason, s.n, out))

@@ -7,7 +7,7 @@ use Rattle.mirror_passes.proofs.passes.mirror_vertical_u16.Reads as ver
 use Rattle.mirror_passes.proofs.passes.mirror_vertical_f32.Kinds as vertical-f32
 use Rattle.mirror_passes.proofs.passes.mirror_vertical_f32.Reads as vertical-f32-reads
 
-pub mirror-vertical-u16-decides : Decides vertical-u16.ps vertical-u16.r vertical-u16-reads.Post (λ κs s t. now (s .1 .1 .1 .1 .1 .1 .1 .1 .1 .1 .0) ≡ now (t .1 .1 .1 .1 .1 .1 .1 .1 .1 .1 .0))
+pub mirror-vertical-u16-decides : Decides vertical-u16.ps vertical-u16.r vertical-u16-reads.Post (λ κs s t. now (s .1 .1 .1 .1 .1 .1 .1 .1 .1 .1 .1 .0) ≡ now (t .1 .1 .1 .1 .1 .1 .1 .1 .1 .1 .1 .0))
 mirror-vertical-u16-decides κs a x y s t p q = (p .0 ∙ sym (q .0), p .1 ∙ sym (q .1))
 
 pub mirror-vertical-f32-decides : Decides vertical-f32.ps vertical-f32.r vertical-f32-reads.Post (λ κs s t. (now (s .1 .1 .1 .1 .1 .1 .1 .1 .1 .0) ≡ now (t .1 .1 .1 .1 .1 .1 .1 .1 .1 .0)) × (now (s .1 .1 .1 .1 .1 .1 .1 .1 .1 .1 .0) ≡ now (t .1 .1 .1 .1 .1 .1 .1 .1 .1 .1 .0)))

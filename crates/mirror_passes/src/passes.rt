@@ -19,12 +19,13 @@ pub extern "C" fn mirror_vertical_u16(
     weights: &[i32],
     starts: &[u32],
     sizes: &[u32],
+    excesses: &[i64],
     window: u32,
     precision: u32,
     out: &mut [u16],
 ) -> u32
-    ensures answer { λ r. ⌜ r ≡ numberOf (passedU16 (storedOf (setOf (layoutOf lines window (now (starts .entry)) (now (sizes .entry))) (now (weights .entry))) precision) (length (now (src .entry))) row first count (length (now (out .entry)))) ⌝ }
-    ensures written { λ _. ⌜ now (out .exit) ≡ writtenU16 (storedOf (setOf (layoutOf lines window (now (starts .entry)) (now (sizes .entry))) (now (weights .entry))) precision) (now (src .entry)) row first count (now (out .entry)) ⌝ }
+    ensures answer { λ r. ⌜ r ≡ numberOf (passedU16 (storedOf (setOf (layoutOf lines window (now (starts .entry)) (now (sizes .entry))) (now (weights .entry))) precision (now (excesses .entry))) (length (now (src .entry))) row first count (length (now (out .entry)))) ⌝ }
+    ensures written { λ _. ⌜ now (out .exit) ≡ writtenU16 (storedOf (setOf (layoutOf lines window (now (starts .entry)) (now (sizes .entry))) (now (weights .entry))) precision (now (excesses .entry))) (now (src .entry)) row first count (now (out .entry)) ⌝ }
 {
     vertical_u16::vert_convolution_u16(
         src,
@@ -37,6 +38,7 @@ pub extern "C" fn mirror_vertical_u16(
         weights,
         starts,
         sizes,
+        excesses,
         window,
         precision,
         out,

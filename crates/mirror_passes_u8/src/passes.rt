@@ -17,12 +17,13 @@ pub extern "C" fn mirror_vertical_u8(
     weights: &[i16],
     starts: &[u32],
     sizes: &[u32],
+    excesses: &[i64],
     window: u32,
     precision: u32,
     out: &mut [u8],
 ) -> u32
-    ensures answer { λ r. ⌜ r ≡ numberOf (passedU8 (storedOf (setOf (layoutOf lines window (now (starts .entry)) (now (sizes .entry))) (now (weights .entry))) precision) (length (now (src .entry))) row first count (length (now (out .entry)))) ⌝ }
-    ensures written { λ _. ⌜ now (out .exit) ≡ writtenU8 (storedOf (setOf (layoutOf lines window (now (starts .entry)) (now (sizes .entry))) (now (weights .entry))) precision) (now (src .entry)) row first count (now (out .entry)) ⌝ }
+    ensures answer { λ r. ⌜ r ≡ numberOf (passedU8 (storedOf (setOf (layoutOf lines window (now (starts .entry)) (now (sizes .entry))) (now (weights .entry))) precision (now (excesses .entry))) (length (now (src .entry))) row first count (length (now (out .entry)))) ⌝ }
+    ensures written { λ _. ⌜ now (out .exit) ≡ writtenU8 (storedOf (setOf (layoutOf lines window (now (starts .entry)) (now (sizes .entry))) (now (weights .entry))) precision (now (excesses .entry))) (now (src .entry)) row first count (now (out .entry)) ⌝ }
 {
     vertical_u8::vert_convolution_u8(
         src,
@@ -35,6 +36,7 @@ pub extern "C" fn mirror_vertical_u8(
         weights,
         starts,
         sizes,
+        excesses,
         window,
         precision,
         out,

@@ -1,4 +1,4 @@
--- The contract of both exports decides its answer, the three lists and every number beside the answer: two readings of one text are the same. Cited by
+-- The contract of both exports decides its answer, the four lists and every number beside the answer: two readings of one text are the same. Cited by
 -- docs/CONTRACTS.md. Assumes nothing.
 use mathlib.Core.Path.{_≡_, _∙_, sym, ap}
 use mathlib.Core.Bool.{Bool}
@@ -34,12 +34,12 @@ tells-decides {wide} {text} {lent} {left} {left′} p q =
       place = p .place ∙ ap byteOf (same .0) ∙ sym (q .place);
     }
 
-pub mirror-read-sheet-decides : Decides read.ps read.r read-reads.Post (λ κs s t. (now (s .1 .0) ≡ now (t .1 .0)) × (now (s .1 .1 .0) ≡ now (t .1 .1 .0)) × (now (s .1 .1 .1 .0) ≡ now (t .1 .1 .1 .0)) × (now (s .1 .1 .1 .1 .0) ≡ now (t .1 .1 .1 .1 .0)) × (now (s .1 .1 .1 .1 .1 .0) ≡ now (t .1 .1 .1 .1 .1 .0)) × (now (s .1 .1 .1 .1 .1 .1 .0) ≡ now (t .1 .1 .1 .1 .1 .1 .0)) × (now (s .1 .1 .1 .1 .1 .1 .1 .0) ≡ now (t .1 .1 .1 .1 .1 .1 .1 .0)) × (now (s .1 .1 .1 .1 .1 .1 .1 .1 .0) ≡ now (t .1 .1 .1 .1 .1 .1 .1 .1 .0)) × (now (s .1 .1 .1 .1 .1 .1 .1 .1 .1 .0) ≡ now (t .1 .1 .1 .1 .1 .1 .1 .1 .1 .0)) × (now (s .1 .1 .1 .1 .1 .1 .1 .1 .1 .1 .0) ≡ now (t .1 .1 .1 .1 .1 .1 .1 .1 .1 .1 .0)))
+pub mirror-read-sheet-decides : Decides read.ps read.r read-reads.Post (λ κs s t. (now (s .1 .0) ≡ now (t .1 .0)) × (now (s .1 .1 .0) ≡ now (t .1 .1 .0)) × (now (s .1 .1 .1 .0) ≡ now (t .1 .1 .1 .0)) × (now (s .1 .1 .1 .1 .0) ≡ now (t .1 .1 .1 .1 .0)) × (now (s .1 .1 .1 .1 .1 .0) ≡ now (t .1 .1 .1 .1 .1 .0)) × (now (s .1 .1 .1 .1 .1 .1 .0) ≡ now (t .1 .1 .1 .1 .1 .1 .0)) × (now (s .1 .1 .1 .1 .1 .1 .1 .0) ≡ now (t .1 .1 .1 .1 .1 .1 .1 .0)) × (now (s .1 .1 .1 .1 .1 .1 .1 .1 .0) ≡ now (t .1 .1 .1 .1 .1 .1 .1 .1 .0)) × (now (s .1 .1 .1 .1 .1 .1 .1 .1 .1 .0) ≡ now (t .1 .1 .1 .1 .1 .1 .1 .1 .1 .0)) × (now (s .1 .1 .1 .1 .1 .1 .1 .1 .1 .1 .0) ≡ now (t .1 .1 .1 .1 .1 .1 .1 .1 .1 .1 .0)) × (now (s .1 .1 .1 .1 .1 .1 .1 .1 .1 .1 .1 .0) ≡ now (t .1 .1 .1 .1 .1 .1 .1 .1 .1 .1 .1 .0)))
 mirror-read-sheet-decides κs a x y s t p q =
     let w = tells-decides p q in
-    (w .number, (ap {B = List ℤ} (λ (l : Lists). l .weights) (w .lists), ap {B = List ℕ} (λ (l : Lists). l .starts) (w .lists), ap {B = List ℕ} (λ (l : Lists). l .sizes) (w .lists), ap {B = ℕ} (λ (h : Head). h .filter) (w .said), ap {B = ℕ} (λ (h : Head). h .lines) (w .said), ap {B = ℕ} (λ (h : Head). h .windows) (w .said), ap {B = ℕ} (λ (h : Head). h .«window_size») (w .said), ap {B = ℕ} (λ (h : Head). h .store) (w .said), ap {B = ℕ} (λ (h : Head). h .precision) (w .said), w .place))
+    (w .number, (ap {B = List ℤ} (λ (l : Lists). l .weights) (w .lists), ap {B = List ℕ} (λ (l : Lists). l .starts) (w .lists), ap {B = List ℕ} (λ (l : Lists). l .sizes) (w .lists), ap {B = List ℤ} (λ (l : Lists). l .excesses) (w .lists), ap {B = ℕ} (λ (h : Head). h .filter) (w .said), ap {B = ℕ} (λ (h : Head). h .lines) (w .said), ap {B = ℕ} (λ (h : Head). h .windows) (w .said), ap {B = ℕ} (λ (h : Head). h .«window_size») (w .said), ap {B = ℕ} (λ (h : Head). h .store) (w .said), ap {B = ℕ} (λ (h : Head). h .precision) (w .said), w .place))
 
-pub mirror-read-sheet16-decides : Decides read16.ps read16.r read16-reads.Post (λ κs s t. (now (s .1 .0) ≡ now (t .1 .0)) × (now (s .1 .1 .0) ≡ now (t .1 .1 .0)) × (now (s .1 .1 .1 .0) ≡ now (t .1 .1 .1 .0)) × (now (s .1 .1 .1 .1 .0) ≡ now (t .1 .1 .1 .1 .0)) × (now (s .1 .1 .1 .1 .1 .0) ≡ now (t .1 .1 .1 .1 .1 .0)) × (now (s .1 .1 .1 .1 .1 .1 .0) ≡ now (t .1 .1 .1 .1 .1 .1 .0)) × (now (s .1 .1 .1 .1 .1 .1 .1 .0) ≡ now (t .1 .1 .1 .1 .1 .1 .1 .0)) × (now (s .1 .1 .1 .1 .1 .1 .1 .1 .0) ≡ now (t .1 .1 .1 .1 .1 .1 .1 .1 .0)) × (now (s .1 .1 .1 .1 .1 .1 .1 .1 .1 .0) ≡ now (t .1 .1 .1 .1 .1 .1 .1 .1 .1 .0)) × (now (s .1 .1 .1 .1 .1 .1 .1 .1 .1 .1 .0) ≡ now (t .1 .1 .1 .1 .1 .1 .1 .1 .1 .1 .0)))
+pub mirror-read-sheet16-decides : Decides read16.ps read16.r read16-reads.Post (λ κs s t. (now (s .1 .0) ≡ now (t .1 .0)) × (now (s .1 .1 .0) ≡ now (t .1 .1 .0)) × (now (s .1 .1 .1 .0) ≡ now (t .1 .1 .1 .0)) × (now (s .1 .1 .1 .1 .0) ≡ now (t .1 .1 .1 .1 .0)) × (now (s .1 .1 .1 .1 .1 .0) ≡ now (t .1 .1 .1 .1 .1 .0)) × (now (s .1 .1 .1 .1 .1 .1 .0) ≡ now (t .1 .1 .1 .1 .1 .1 .0)) × (now (s .1 .1 .1 .1 .1 .1 .1 .0) ≡ now (t .1 .1 .1 .1 .1 .1 .1 .0)) × (now (s .1 .1 .1 .1 .1 .1 .1 .1 .0) ≡ now (t .1 .1 .1 .1 .1 .1 .1 .1 .0)) × (now (s .1 .1 .1 .1 .1 .1 .1 .1 .1 .0) ≡ now (t .1 .1 .1 .1 .1 .1 .1 .1 .1 .0)) × (now (s .1 .1 .1 .1 .1 .1 .1 .1 .1 .1 .0) ≡ now (t .1 .1 .1 .1 .1 .1 .1 .1 .1 .1 .0)) × (now (s .1 .1 .1 .1 .1 .1 .1 .1 .1 .1 .1 .0) ≡ now (t .1 .1 .1 .1 .1 .1 .1 .1 .1 .1 .1 .0)))
 mirror-read-sheet16-decides κs a x y s t p q =
     let w = tells-decides p q in
-    (w .number, (ap {B = List ℤ} (λ (l : Lists). l .weights) (w .lists), ap {B = List ℕ} (λ (l : Lists). l .starts) (w .lists), ap {B = List ℕ} (λ (l : Lists). l .sizes) (w .lists), ap {B = ℕ} (λ (h : Head). h .filter) (w .said), ap {B = ℕ} (λ (h : Head). h .lines) (w .said), ap {B = ℕ} (λ (h : Head). h .windows) (w .said), ap {B = ℕ} (λ (h : Head). h .«window_size») (w .said), ap {B = ℕ} (λ (h : Head). h .store) (w .said), ap {B = ℕ} (λ (h : Head). h .precision) (w .said), w .place))
+    (w .number, (ap {B = List ℤ} (λ (l : Lists). l .weights) (w .lists), ap {B = List ℕ} (λ (l : Lists). l .starts) (w .lists), ap {B = List ℕ} (λ (l : Lists). l .sizes) (w .lists), ap {B = List ℤ} (λ (l : Lists). l .excesses) (w .lists), ap {B = ℕ} (λ (h : Head). h .filter) (w .said), ap {B = ℕ} (λ (h : Head). h .lines) (w .said), ap {B = ℕ} (λ (h : Head). h .windows) (w .said), ap {B = ℕ} (λ (h : Head). h .«window_size») (w .said), ap {B = ℕ} (λ (h : Head). h .store) (w .said), ap {B = ℕ} (λ (h : Head). h .precision) (w .said), w .place))

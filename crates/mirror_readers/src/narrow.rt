@@ -11,6 +11,7 @@ pub extern "C" fn mirror_read_sheet16(
     weights: &mut [i16],
     starts: &mut [u32],
     sizes: &mut [u32],
+    excesses: &mut [i64],
     filter: &mut u32,
     lines: &mut u32,
     windows: &mut u32,
@@ -19,9 +20,9 @@ pub extern "C" fn mirror_read_sheet16(
     precision: &mut u32,
     byte: &mut u64,
 ) -> u32
-    ensures tells { λ r. ⌜ Tells false (now (text .entry)) (lists (now (weights .entry)) (now (starts .entry)) (now (sizes .entry))) (lists (now (weights .exit)) (now (starts .exit)) (now (sizes .exit))) r (headed (now (filter .exit)) (now (lines .exit)) (now (windows .exit)) (now (window .exit)) (now (store .exit)) (now (precision .exit))) (now (byte .exit)) ⌝ }
+    ensures tells { λ r. ⌜ Tells false (now (text .entry)) (lists (now (weights .entry)) (now (starts .entry)) (now (sizes .entry)) (now (excesses .entry))) (lists (now (weights .exit)) (now (starts .exit)) (now (sizes .exit)) (now (excesses .exit))) r (headed (now (filter .exit)) (now (lines .exit)) (now (windows .exit)) (now (window .exit)) (now (store .exit)) (now (precision .exit))) (now (byte .exit)) ⌝ }
 {
-    let answer = reader::read_sheet16(text, weights, starts, sizes);
+    let answer = reader::read_sheet16(text, weights, starts, sizes, excesses);
     let head = head_of(answer);
     *filter = head.filter;
     *lines = head.lines;

@@ -7,8 +7,8 @@ use Rattle.mirror_stores.proofs.stores.mirror_normalize16.Reads as norm
 use Rattle.mirror_stores.proofs.stores.mirror_normalize32.Kinds as normalize32
 use Rattle.mirror_stores.proofs.stores.mirror_normalize32.Reads as normalize32-reads
 
-pub mirror-normalize16-decides : Decides normalize16.ps normalize16.r normalize16-reads.Post (λ κs s t. (now (s .1 .1 .1 .1 .1 .0) ≡ now (t .1 .1 .1 .1 .1 .0)) × (now (s .1 .1 .1 .1 .1 .1 .0) ≡ now (t .1 .1 .1 .1 .1 .1 .0)))
-mirror-normalize16-decides κs a x y s t p q = (p .0 ∙ sym (q .0), (p .1 .0 ∙ sym (q .1 .0), p .1 .1 ∙ sym (q .1 .1)))
+pub mirror-normalize16-decides : Decides normalize16.ps normalize16.r normalize16-reads.Post (λ κs s t. (now (s .1 .1 .1 .1 .1 .0) ≡ now (t .1 .1 .1 .1 .1 .0)) × (now (s .1 .1 .1 .1 .1 .1 .0) ≡ now (t .1 .1 .1 .1 .1 .1 .0)) × (now (s .1 .1 .1 .1 .1 .1 .1 .0) ≡ now (t .1 .1 .1 .1 .1 .1 .1 .0)))
+mirror-normalize16-decides κs a x y s t p q = (p .0 ∙ sym (q .0), (p .1 .0 ∙ sym (q .1 .0), p .1 .1 .0 ∙ sym (q .1 .1 .0), p .1 .1 .1 ∙ sym (q .1 .1 .1)))
 
-pub mirror-normalize32-decides : Decides normalize32.ps normalize32.r normalize32-reads.Post (λ κs s t. (now (s .1 .1 .1 .1 .1 .0) ≡ now (t .1 .1 .1 .1 .1 .0)) × (now (s .1 .1 .1 .1 .1 .1 .0) ≡ now (t .1 .1 .1 .1 .1 .1 .0)))
-mirror-normalize32-decides κs a x y s t p q = (p .0 ∙ sym (q .0), (p .1 .0 ∙ sym (q .1 .0), p .1 .1 ∙ sym (q .1 .1)))
+pub mirror-normalize32-decides : Decides normalize32.ps normalize32.r normalize32-reads.Post (λ κs s t. (now (s .1 .1 .1 .1 .1 .0) ≡ now (t .1 .1 .1 .1 .1 .0)) × (now (s .1 .1 .1 .1 .1 .1 .0) ≡ now (t .1 .1 .1 .1 .1 .1 .0)) × (now (s .1 .1 .1 .1 .1 .1 .1 .0) ≡ now (t .1 .1 .1 .1 .1 .1 .1 .0)))
+mirror-normalize32-decides κs a x y s t p q = (p .0 ∙ sym (q .0), (p .1 .0 ∙ sym (q .1 .0), p .1 .1 .0 ∙ sym (q .1 .1 .0), p .1 .1 .1 ∙ sym (q .1 .1 .1)))

@@ -1,8 +1,5 @@
-pub mod Slots
-pub mod Casts
-pub mod Bounds
 pub mod Judged
-pub mod Largest
+pub mod Left
 pub mod Table
 pub mod Sure
 pub mod Rows

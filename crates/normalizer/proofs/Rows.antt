@@ -13,7 +13,7 @@ use Rattle.refusal.specs.declared.Refusal.the-variants.{BadSide, TooFewSlots, D
 use Rattle.windows.specs.declared.Store.{Store}
 use Rattle.windows.specs.Set.{Set, windows}
 use Rattle.windows.specs.Fit.{badSet}
-use Rattle.normalizer.specs.Precision.{precision}
+use Rattle.weight_precision.specs.Precision.{precision}
 use Rattle.normalizer.specs.Answer.{tooFewSlots, badWeights, normalizedOf, numberOf}
 use Rattle.normalizer.specs.declared.Normalized.the-variants.{Done, Refused}
 
@@ -24,19 +24,19 @@ numbered false false true d p = refl
 numbered false false false true p = refl
 numbered false false false false p = refl
 
-module _ (store : Store) (s : Set Float) (room : ℕ) where
+module _ (store : Store) (s : Set Float) (room places : ℕ) where
   -- the tests in the order of judging, each with its number: sides; slots lent; lists and windows; weights
   abbrev pub rows : List (Bool × ℕ)
   rows =
       (badSides (s .layout .lines) (windows (s .layout)), 1)
-      ∷ (tooFewSlots store s room, 7)
+      ∷ (tooFewSlots store s room places, 7)
       ∷ (badSet (s .layout) (length (s .weights)), 10)
-      ∷ (badWeights store s room, 9)
+      ∷ (badWeights store s room places, 9)
       ∷ []
 
-  is : numberOf (normalizedOf store s room) ≡ given rows
+  is : numberOf (normalizedOf store s room places) ≡ given rows
   unfolding normalizedOf
-  is = numbered (badSides (s .layout .lines) (windows (s .layout))) (tooFewSlots store s room) (badSet (s .layout) (length (s .weights))) (badWeights store s room) (precision store (s .weights))
+  is = numbered (badSides (s .layout .lines) (windows (s .layout))) (tooFewSlots store s room places) (badSet (s .layout) (length (s .weights))) (badWeights store s room places) (precision store (s .weights))
 
-  pub normalized-exactly : (n : ℕ) → Exactly (numberOf (normalizedOf store s room) ≡ n) (Due n rows)
+  pub normalized-exactly : (n : ℕ) → Exactly (numberOf (normalizedOf store s room places) ≡ n) (Due n rows)
   normalized-exactly n = rw is (exactly-due n rows refl)

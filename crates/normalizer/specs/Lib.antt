@@ -1,3 +1,2 @@
-pub mod Precision
 pub mod Answer
-pub mod Bounds
+pub mod Left

@@ -1,18 +1,20 @@
 // `normalizer`: weights as integers, in the 16-bit or the 32-bit store. A set of doubles gets one `precision`, found from its largest weight; each weight
-// in use becomes weight x 2^precision rounded half away from zero, the other slots 0. A set that does not fit is refused, and nothing is written.
+// in use becomes weight x 2^precision rounded half away from zero, the other slots 0; each window gets its `excess`. A set that does not fit is refused, and nothing is written.
 mod answer;
 mod judge;
-mod precision;
-mod slots16;
-mod slots32;
 
 ghost use mathlib.Core.Path.{_≡_};
 ghost use lib.ListN.{length};
 ghost use Rattle.windows.specs.Set.{layoutOf, setOf};
 ghost use Rattle.windows.specs.Store.{store16, store32};
-ghost use Rattle.normalizer.specs.Precision.{precision};
-ghost use Rattle.normalizer.specs.Answer.{normalizedOf, writtenOf};
+ghost use Rattle.weight_precision.specs.Precision.{precision};
+ghost use Rattle.normalizer.specs.Answer.{normalizedOf, writtenOf, excessesOf};
+use excesses::NO_LONG;
+use excesses::NO_SHORT;
+use excesses::write_excesses;
 use refusal::Refusal;
+use weight_slots::write16;
+use weight_slots::write32;
 use windows::Store;
 
 pub enum Normalized {
@@ -41,7 +43,7 @@ impl Normalizer16 {
         ensures answer { λ r. ⌜ r .precision ≡ precision store16 (now (weights .entry)) ⌝ }
     {
         Normalizer16 {
-            precision: precision::precision(weights, Self::STORE),
+            precision: weight_precision::precision(weights, Self::STORE),
         }
     }
 }
@@ -66,12 +68,12 @@ impl Normalizer32 {
         ensures answer { λ r. ⌜ r .precision ≡ precision store32 (now (weights .entry)) ⌝ }
     {
         Normalizer32 {
-            precision: precision::precision(weights, Self::STORE),
+            precision: weight_precision::precision(weights, Self::STORE),
         }
     }
 }
 
-// The weights of a set in the 16-bit store, and their precision, or the number that refuses them; for any numbers and lists.
+// The weights of a set in the 16-bit store with their excesses, and their precision, or the number that refuses them; for any numbers and lists.
 pub fn normalize16(
     lines: u32,
     window_size: u32,
@@ -79,9 +81,11 @@ pub fn normalize16(
     starts: &[u32],
     sizes: &[u32],
     out: &mut [i16],
+    excesses: &mut [i64],
 ) -> Normalized
-    ensures answer { λ r. ⌜ r ≡ normalizedOf store16 (setOf (layoutOf lines «window_size» (now (starts .entry)) (now (sizes .entry))) (now (weights .entry))) (length (now (out .entry))) ⌝ }
-    ensures written { λ _. ⌜ now (out .exit) ≡ writtenOf store16 (setOf (layoutOf lines «window_size» (now (starts .entry)) (now (sizes .entry))) (now (weights .entry))) (now (out .entry)) ⌝ }
+    ensures answer { λ r. ⌜ r ≡ normalizedOf store16 (setOf (layoutOf lines «window_size» (now (starts .entry)) (now (sizes .entry))) (now (weights .entry))) (length (now (out .entry))) (length (now (excesses .entry))) ⌝ }
+    ensures written { λ _. ⌜ now (out .exit) ≡ writtenOf store16 (setOf (layoutOf lines «window_size» (now (starts .entry)) (now (sizes .entry))) (now (weights .entry))) (length (now (excesses .entry))) (now (out .entry)) ⌝ }
+    ensures written2 { λ _. ⌜ now (excesses .exit) ≡ excessesOf store16 (setOf (layoutOf lines «window_size» (now (starts .entry)) (now (sizes .entry))) (now (weights .entry))) (length (now (out .entry))) (now (excesses .entry)) ⌝ }
 {
     let answer = judge::judge(
         Normalizer16::STORE,
@@ -91,11 +95,13 @@ pub fn normalize16(
         starts,
         sizes,
         out.len(),
+        excesses.len(),
     );
     let Normalized::Done(p) = answer else {
         return answer;
     };
-    slots16::write16(p, window_size, weights, sizes, out);
+    write16(p, window_size, weights, sizes, out);
+    write_excesses(p, window_size, false, out, &NO_LONG, sizes, excesses);
     answer
 }
 
@@ -107,9 +113,11 @@ pub fn normalize32(
     starts: &[u32],
     sizes: &[u32],
     out: &mut [i32],
+    excesses: &mut [i64],
 ) -> Normalized
-    ensures answer { λ r. ⌜ r ≡ normalizedOf store32 (setOf (layoutOf lines «window_size» (now (starts .entry)) (now (sizes .entry))) (now (weights .entry))) (length (now (out .entry))) ⌝ }
-    ensures written { λ _. ⌜ now (out .exit) ≡ writtenOf store32 (setOf (layoutOf lines «window_size» (now (starts .entry)) (now (sizes .entry))) (now (weights .entry))) (now (out .entry)) ⌝ }
+    ensures answer { λ r. ⌜ r ≡ normalizedOf store32 (setOf (layoutOf lines «window_size» (now (starts .entry)) (now (sizes .entry))) (now (weights .entry))) (length (now (out .entry))) (length (now (excesses .entry))) ⌝ }
+    ensures written { λ _. ⌜ now (out .exit) ≡ writtenOf store32 (setOf (layoutOf lines «window_size» (now (starts .entry)) (now (sizes .entry))) (now (weights .entry))) (length (now (excesses .entry))) (now (out .entry)) ⌝ }
+    ensures written2 { λ _. ⌜ now (excesses .exit) ≡ excessesOf store32 (setOf (layoutOf lines «window_size» (now (starts .entry)) (now (sizes .entry))) (now (weights .entry))) (length (now (out .entry))) (now (excesses .entry)) ⌝ }
 {
     let answer = judge::judge(
         Normalizer32::STORE,
@@ -119,10 +127,12 @@ pub fn normalize32(
         starts,
         sizes,
         out.len(),
+        excesses.len(),
     );
     let Normalized::Done(p) = answer else {
         return answer;
     };
-    slots32::write32(p, window_size, weights, sizes, out);
+    write32(p, window_size, weights, sizes, out);
+    write_excesses(p, window_size, true, &NO_SHORT, out, sizes, excesses);
     answer
 }

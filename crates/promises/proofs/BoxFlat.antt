@@ -21,24 +21,24 @@ use Rattle.promises.proofs.BoxSet as set
 use Rattle.promises.proofs.BoxPremise.{near}
 use Rattle.promises.proofs.FlatFrame.{flat-frame}
 
-module _ (q : Request) (lines : ℕ) (ws : List Float) (ss zs : List ℕ) (out : List ℤ) (ok : Accepted q lines ws ss zs out) where
-  made : builtOf q (length ws) (length ss) (length zs) ≡ Done (windowOf (built q lines ws ss zs out))
-  made = built-done (built q lines ws ss zs out) (ok .1)
+module _ (q : Request) (lines : ℕ) (ws : List Float) (ss zs : List ℕ) (out excesses : List ℤ) (ok : Accepted q lines ws ss zs out excesses) where
+  made : builtOf q (length ws) (length ss) (length zs) ≡ Done (windowOf (built q lines ws ss zs out excesses))
+  made = built-done (built q lines ws ss zs out excesses) (ok .1)
 
-  premise : (i : ℕ) → i < q .output → NearOne (stored q lines ws ss zs out) i
+  premise : (i : ℕ) → i < q .output → NearOne (stored q lines ws ss zs out excesses) i
   premise =
-      near q lines ws ss zs (windowOf (built q lines ws ss zs out)) out (precisionIn (normal q lines ws ss zs out)) (ok .0) made
-      (normalized-done (normal q lines ws ss zs out) (ok .2))
+      near q lines ws ss zs (windowOf (built q lines ws ss zs out excesses)) out excesses (precisionIn (normal q lines ws ss zs out excesses)) (ok .0) made
+      (normalized-done (normal q lines ws ss zs out excesses) (ok .2))
 
-  long : windows (stored q lines ws ss zs out .set .layout) ≡ q .output
-  long = set.long-starts q ws ss zs (windowOf (built q lines ws ss zs out)) (ok .0) made
+  long : windows (stored q lines ws ss zs out excesses .set .layout) ≡ q .output
+  long = set.long-starts q ws ss zs (windowOf (built q lines ws ss zs out excesses)) (ok .0) made
 
 pub box-premise : BoxPremise
 box-premise = premise
 
 pub box-flat : BoxFlat
-box-flat q lines ws ss zs out ok src row first count old v done top flat =
-    let s = stored q lines ws ss zs out in
-    let l = long q lines ws ss zs out ok in
+box-flat q lines ws ss zs out excesses ok src row first count old v done top flat =
+    let s = stored q lines ws ss zs out excesses in
+    let l = long q lines ws ss zs out excesses ok in
     subst (λ (m : ℕ). writtenU16 s src row first count old ≡ tab 0 (m * count) (λ k. v)) l
-    (flat-frame s src row first count old v done top flat (λ i h. premise q lines ws ss zs out ok i (lt-of-lt-of-le h (le-of-eq l))))
+    (flat-frame s src row first count old v done top flat (λ i h. premise q lines ws ss zs out excesses ok i (lt-of-lt-of-le h (le-of-eq l))))

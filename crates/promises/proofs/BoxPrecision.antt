@@ -24,7 +24,7 @@ use lib.Ieee.Exact.{HasValue}
 use lib.Ieee.Scale.{finite}
 use Rattle.floats.proofs.Integers.{int, int-value, within-mul, int-within}
 use Rattle.windows.specs.Store.{store32}
-use Rattle.normalizer.specs.Precision.{larger, largest, scaled, reaches, precision}
+use Rattle.weight_precision.specs.Precision.{larger, largest, scaled, reaches, precision}
 use Rattle.promises.proofs.BoxFilter.{not-reached}
 
 -- a whole number that is smaller is not reached

@@ -29,12 +29,16 @@ use Rattle.floats.proofs.Within.{within-value}
 use Rattle.floats.proofs.Integers.{int, int-value, within-mul, within-div-int, passes-float, int-within}
 use Rattle.numbers.specs.Whole.{roundAway}
 use Rattle.numbers.proofs.Sizes.{half-le}
-use Rattle.windows.specs.Set.{Set, Stored, windows, inUse, distanceOf}
+use Rattle.windows.specs.Set.{Set, setOf, Stored, storedOf, windows, inUse, distanceOf}
 use Rattle.windows.specs.Store.{store32}
+use Rattle.excesses.proofs.SameExcess.{sum-ext}
 use Rattle.normalizer.specs.declared.Normalized.{Normalized}
 use Rattle.normalizer.specs.declared.Normalized.the-variants.{Done as Normal}
-use Rattle.normalizer.specs.Precision.{power, scaled, integer}
-use Rattle.normalizer.specs.Answer.{holds, leaves, normalizedOf, slotAt, writtenBy, writtenOf}
+use Rattle.weight_precision.specs.Precision.{power, scaled, integer}
+use Rattle.weight_precision.specs.Weights.{holds, leaves}
+use Rattle.weight_slots.specs.Slots.{slotAt}
+use Rattle.normalizer.specs.Answer.{writtenBy, writtenOf, excessesOf}
+use Rattle.normalizer.specs.Left.{answerFor}
 use Rattle.normalizer.proofs.Judged.{Ready, ready}
 use Rattle.filters.specs.declared.FilterType.the-variants.{Box}
 use Rattle.plans.specs.declared.Request.{Request}
@@ -42,7 +46,7 @@ use Rattle.coefficients.specs.declared.Built.the-variants.{Done as Built}
 use Rattle.coefficients.specs.Request.{builtOf}
 use Rattle.plan_windows.specs.Lines.{size}
 use Rattle.promises.specs.FlatFrames.{NearOne}
-use Rattle.promises.specs.BoxKeepsFlat.{builtSet, storedSet}
+use Rattle.promises.specs.BoxKeepsFlat.{builtSet}
 use Rattle.promises.proofs.Box.{weight, box, scaled as product}
 use Rattle.promises.proofs.BoxSet as set
 use Rattle.promises.proofs.BoxPrecision.{rounded-is, largest-within, precise}
@@ -59,11 +63,6 @@ sum-equal : (K n : ℕ) → sum (λ k. pos K) n ≡ pos (K * n)
 unfolding sum
 sum-equal K zero = ap pos (sym (mul-zero K))
 sum-equal K (suc n) = rw (sum-equal K n, mul-suc)
-
-sum-ext : (f g : ℕ → ℤ) (n : ℕ) → ((k : ℕ) → k < n → f k ≡ g k) → sum f n ≡ sum g n
-unfolding sum
-sum-ext f g zero h = refl
-sum-ext f g (suc n) h = rw (sum-ext f g n (λ k l. h k (omega arith)), h n (omega arith))
 
 -- a size that is not negative, rounded and cast
 away-cast : (x : Float) (h n : ℕ) → h ≤ 53 → Within x n → nearest (num x) (den x) < 2 ^ h → toSigned h (roundAway binary64 x) ≡ pos (nearest (num x) (den x))
@@ -105,18 +104,19 @@ module _ (n P : ℕ) (some : 0 < n) (many : n ≤ 8192) (high : P ≤ 45) where
   integer-is l = away-cast (product n P) 31 (1 * 2 ^ P) (lit≤ tt) within l
 
 -- ---- a Box set that the builder and the 32-bit normaliser accept
-module _ (q : Request) (lines : ℕ) (ws : List Float) (ss zs : List ℕ) (w : ℕ) (out : List ℤ) (P : ℕ)
+module _ (q : Request) (lines : ℕ) (ws : List Float) (ss zs : List ℕ) (w : ℕ) (out excesses : List ℤ) (P : ℕ)
     (box-asked : q .filter ≡ Box) (built : builtOf q (length ws) (length ss) (length zs) ≡ Built w)
-    (normal : normalizedOf store32 (builtSet q lines ws ss zs w) (length out) ≡ Normal P) where
+    (normal : answerFor store32 (builtSet q lines ws ss zs w) out excesses ≡ Normal P) where
   abbrev s : Set Float
   s = builtSet q lines ws ss zs w
 
   -- what the normaliser leaves of it
   abbrev held : Stored
-  held = storedSet s P out
+  held =
+      storedOf (setOf (s .layout) (take (windows (s .layout) * w) (writtenOf store32 s (length excesses) out))) P (take (windows (s .layout)) (excessesOf store32 s (length out) excesses))
 
-  got : Ready store32 s (length out) P
-  got = ready store32 s (length out) P normal
+  got : Ready store32 s (length out) (length excesses) P
+  got = ready store32 s (length out) (length excesses) P normal
 
   -- the precision
   exact : (30 ≤ P) × (P ≤ 45)

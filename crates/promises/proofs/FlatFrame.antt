@@ -13,18 +13,20 @@ use lib.Seq.{take-at, drop-at}
 use borrow.Author.Tests.{ltb-true}
 use Rattle.lists.specs.Tab.{tab, grid}
 use Rattle.lists.proofs.TabLaws.{length-tab, getD-tab, tab-ext, tab-add, tab-row, row-end}
-use Rattle.lists.proofs.RangeLaws.{InRange, not-outside}
+use Rattle.lists.proofs.RangeLaws.{InRange}
 use Rattle.integers.proofs.Sums.{total-ext}
 use Rattle.windows.specs.Set.{Stored, windows, start, size, weight, sample, distanceOf}
+use Rattle.windows.specs.Store.{store16, store32}
+use Rattle.excesses.proofs.StoredLaws.{stored-precise}
 use Rattle.vertical.specs.Frame.{frame, output, rowOf}
 use Rattle.vertical.specs.Passed.{numberOf}
 use Rattle.vertical.specs.U16.{passedU16, writtenU16, valueAt, keepsFlat}
 use Rattle.vertical_u8.specs.U8.{passedU8, writtenU8}
-use Rattle.vertical_u8.proofs.ColumnCut.{TestsU8, tests-u8}
-use Rattle.vertical.proofs.Answers.{TestsU16, tests-u16, Shaped, shaped}
+use Rattle.vertical.proofs.Answers.{Tests, tests-u16, tests-shaped, Shaped}
 use Rattle.vertical.proofs.Columns.{some-column}
 use Rattle.promises.specs.FlatFrames.{Flat, FlatRow, FlatFrame, FlatRowU8, FlatFrameU8}
 use Rattle.promises.proofs.Accepted.{passed-done}
+use Rattle.promises.proofs.DoneU8.{TestsU8, tests-u8}
 use Rattle.promises.proofs.Frames.{flat-unchanged}
 
 -- row i of an output is window i at each column
@@ -77,14 +79,14 @@ module _ (M : ℕ) (s : Stored) (src : List ℕ) (row first count room : ℕ) (f
 
 -- ---- the u16 pass
 module _ (s : Stored) (samples row first count room : ℕ) (none : numberOf (passedU16 s samples row first count room) ≡ 0) where
-  tests : TestsU16 s samples row first count room
+  tests : Tests store32 s samples row first count room
   tests = tests-u16 s samples row first count room (passed-done (passedU16 s samples row first count room) none)
 
   pub fits : Shaped (s .set) samples row first count room
-  fits = shaped (s .set) samples row first count room (tests .size) (tests .shape)
+  fits = tests-shaped store32 s samples row first count room tests
 
   pub some-u16 : 1 ≤ s .precision
-  some-u16 = omega (arith, not-outside 4 45 (s .precision) (tests .precision))
+  some-u16 = omega (arith, stored-precise s store32 (tests .stored))
 
 written : (s : Stored) (src : List ℕ) (row first count : ℕ) (old : List ℕ) → numberOf (passedU16 s (length src) row first count (length old)) ≡ 0 → writtenU16 s src row first count old ≡ output (valueAt 65535 s (frame 0 src row)) (windows (s .set .layout)) first count
 unfolding writtenU16
@@ -104,10 +106,10 @@ module _ (s : Stored) (samples row first count room : ℕ) (none : numberOf (pas
   tests-8 = tests-u8 s samples row first count room (passed-done (passedU8 s samples row first count room) none)
 
   pub fits-u8 : Shaped (s .set) samples row first count room
-  fits-u8 = shaped (s .set) samples row first count room (tests-8 .size) (tests-8 .shape)
+  fits-u8 = tests-shaped store16 s samples row first count room (tests-8 .tests)
 
   pub some-u8 : 1 ≤ s .precision
-  some-u8 = omega (arith, not-outside 4 21 (s .precision) (tests-8 .precision))
+  some-u8 = omega (arith, stored-precise s store16 (tests-8 .tests .stored))
 
 written-u8 : (s : Stored) (src : List ℕ) (row first count : ℕ) (old : List ℕ) → numberOf (passedU8 s (length src) row first count (length old)) ≡ 0 → writtenU8 s src row first count old ≡ output (valueAt 255 s (frame 0 src row)) (windows (s .set .layout)) first count
 unfolding writtenU8

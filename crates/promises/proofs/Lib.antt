@@ -1,6 +1,8 @@
 mod Accepted
+mod DoneU8
 pub mod Frames
 pub mod FlatFrame
+pub mod FlatPremise
 pub mod Sums
 pub mod Box
 pub mod BoxFilter
@@ -11,6 +13,7 @@ pub mod BoxSet
 pub mod BoxPrecision
 pub mod BoxPremise
 pub mod BoxFlat
+pub mod MakersFit
 pub mod ColumnCuts
 pub mod InfiniteLimit
 pub mod InfiniteCounts

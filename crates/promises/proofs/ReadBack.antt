@@ -14,12 +14,12 @@ use Rattle.lists.proofs.BoolLaws.{or-left, or-right, ladder}
 use Rattle.lists.proofs.RangeLaws.{InRange, not-outside}
 use Rattle.refusal.specs.declared.Refusal.the-variants.{BadSide, DoesNotFit, NoRoom}
 use Rattle.text.specs.Text.{over}
+use Rattle.windows.specs.declared.Store.{Store}
 use Rattle.windows.specs.Set.{Stored, windows}
 use Rattle.windows.specs.Store.{store32, largestPrecision, badPrecision}
-use Rattle.windows.specs.Fit.{badSet, badStored}
+use Rattle.windows.specs.Fit.{badSet, badExcesses, badStored}
 use Rattle.vertical.specs.declared.Passed.the-variants as passed
 use Rattle.vertical.specs.Passed.{numberOf as numberOfPassed}
-use Rattle.vertical.specs.Frame.{badSize, badFrame, badRange, badShape}
 use Rattle.vertical.specs.U16.{passedU16}
 use Rattle.vertical.proofs.Answers.{tests-u16}
 use Rattle.sheet.specs.declared.Sheet.the-variants as sheet
@@ -32,21 +32,28 @@ use Rattle.sheet_scan.proofs.BackLaws.{precise}
 use Rattle.sheet_scan.proofs.StoreLaws.{most-most}
 use Rattle.reader.specs.declared.Reading.{Reading}
 use Rattle.reader.specs.declared.Reading.the-variants.{Loaded, TooFew, NotASheet}
-use Rattle.reader.specs.Reading.{Lists, tooFewSlots, Reads, numberOf, byteOf}
+use Rattle.reader.specs.Reading.{Lists, Room, roomOf, tooFewSlots, Reads, numberOf, byteOf}
 use Rattle.reader.proofs.ReadingLaws as laws
 use Rattle.promises.specs.ReadBack.{heldIn, sizesIn, Few, LoadedExactly, ReadOfWritten, WrittenOfRead, PlaceOfRefusal, PassTakes}
 use Rattle.promises.proofs.Accepted.{passed-done}
 
 -- enough is lent
-enough : (v : Sizes) (slots starts sizes : ℕ) → v .windows * v .«window_size» ≤ slots → v .windows ≤ starts → v .windows ≤ sizes → tooFewSlots v slots starts sizes ≡ false
-enough v slots starts sizes a b c = rw (le-ltb slots (v .windows * v .«window_size») a, le-ltb starts (v .windows) b, le-ltb sizes (v .windows) c)
+enough : (v : Sizes) (room : Room) → v .windows * v .«window_size» ≤ room .slots → v .windows ≤ room .starts → v .windows ≤ room .sizes → v .windows ≤ room .excesses → tooFewSlots v room ≡ false
+enough v room a b c d = rw (le-ltb (room .slots) (v .windows * v .«window_size») a, le-ltb (room .starts) (v .windows) b, le-ltb (room .sizes) (v .windows) c, le-ltb (room .excesses) (v .windows) d)
+
+-- a set that one store's judge takes, with a precision of the other's
+other-store : (s : Stored) (a b : Store) → badStored s a ≡ false → badPrecision b (s .precision) ≡ false → badStored s b ≡ false
+other-store s a b h precision =
+    let set = badSet (s .set .layout) (length (s .set .weights)) in
+    let shape = set || badPrecision a (s .precision) in
+    rw (or-left set (badPrecision a (s .precision)) (or-left shape (badExcesses s) h), precision) (or-right shape (badExcesses s) h)
 
 -- a pass whose tests all fail
-passes : (s : Stored) (row first count : ℕ) → badSides (s .set .layout .lines) (windows (s .set .layout)) ≡ false → badSet (s .set .layout) (length (s .set .weights)) ≡ false → badPrecision store32 (s .precision) ≡ false → 1 ≤ row → row ≤ 32768 → first + count ≤ row → passedU16 s (s .set .layout .lines * row) row first count (windows (s .set .layout) * count) ≡ passed.Done
+passes : (s : Stored) (row first count : ℕ) → badSides (s .set .layout .lines) (windows (s .set .layout)) ≡ false → badStored s store32 ≡ false → 1 ≤ row → row ≤ 32768 → first + count ≤ row → passedU16 s (s .set .layout .lines * row) row first count (windows (s .set .layout) * count) ≡ passed.Done
 unfolding passedU16
-passes s row first count sides set-fits precision some few inside =
+passes s row first count sides stored some few inside =
     let l = s .set .layout in
-    rw (sides, set-fits, precision, le-ltb row 1 some, le-ltb 32768 row few, le-ltb row (first + count) inside, eq-eqb (l .lines * row) (l .lines * row) refl, eq-eqb (windows l * count) (windows l * count) refl)
+    rw (sides, stored, le-ltb row 1 some, le-ltb 32768 row few, le-ltb row (first + count) inside, eq-eqb (l .lines * row) (l .lines * row) refl, eq-eqb (windows l * count) (windows l * count) refl)
 
 module _ (wide : Bool) where
   pub read-back-exactly : LoadedExactly wide
@@ -69,8 +76,8 @@ module _ (wide : Bool) where
       few (NotASheet n) f h = absurd (omega (arith, h))
 
   pub read-back-of-written : ReadOfWritten wide
-  read-back-of-written kind bits s lent r left a blank slots starts sizes reads =
-      laws.read-of-written wide (record { kind = kind; bits = bits; set = s }) lent r left a blank (enough (sizesIn kind s) (length (lent .weights)) (length (lent .starts)) (length (lent .sizes)) slots starts sizes) reads
+  read-back-of-written kind bits s lent r left a blank slots starts sizes excesses reads =
+      laws.read-of-written wide (record { kind = kind; bits = bits; set = s }) lent r left a blank (enough (sizesIn kind s) (roomOf lent) slots starts sizes excesses) reads
 
   -- what is accepted is written where there is room
   module _ (bits : ℕ) (s : Stored) (a : Accepted wide bits s) (n room : ℕ) (enough-room : n ≤ room) where
@@ -120,16 +127,14 @@ module _ (wide : Bool) where
 
   pub pass-takes : PassTakes wide
   pass-takes bits s = (
-    λ a row first count some few inside. ap numberOfPassed (passes s row first count (a .sides) (or-left (badSet (s .set .layout) (length (s .set .weights))) (badPrecision (storeNamed bits) (s .precision)) (a .fits)) (precise-32 bits s a) some few inside),
+    λ a row first count some few inside. ap numberOfPassed (passes s row first count (a .sides) (other-store s (storeNamed bits) store32 (a .fits) (precise-32 bits s a)) some few inside),
     λ samples row first count room done taken precision inside.
         let t = tests-u16 s samples row first count room (passed-done (passedU16 s samples row first count room) done) in
         let l = s .set .layout in
-        let slots = length (s .set .weights) in
-        let shape = or-left (badSet l slots || badFrame samples (l .lines) row) (badRange row first count (windows l) room) (t .shape) in
         record {
           taken = taken;
           sides = or-left (badSides (l .lines) (windows l)) (outside 1 32768 row) (t .size);
-          fits = rw (or-left (badSet l slots) (badFrame samples (l .lines) row) shape, precision);
+          fits = other-store s store32 (storeNamed bits) (t .stored) precision;
           inside = inside;
         },
   )

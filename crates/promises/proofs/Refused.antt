@@ -34,7 +34,7 @@ use Rattle.plans.specs.Plan.{badOutput, noScale, edgeOf, planFor, scaled, after
 use Rattle.coefficients.specs.Request.{tooFewSlots, judged, kept, built as builtBy}
 use Rattle.normalizer.specs.declared.Normalized.{Normalized}
 use Rattle.normalizer.specs.declared.Normalized.the-variants as normalized
-use Rattle.normalizer.specs.Answer.{normalizedOf, writtenBy, writtenOf, numberOf as numberOfNormalized}
+use Rattle.normalizer.specs.Answer.{normalizedOf, writtenBy, excessesBy, writtenOf, excessesOf, numberOf as numberOfNormalized}
 use Rattle.vertical.specs.declared.Passed.{Passed}
 use Rattle.vertical.specs.declared.Passed.the-variants as passed
 use Rattle.vertical.specs.Passed.{after, numberOf as numberOfPassed}
@@ -111,12 +111,13 @@ unfolding judged
 zeroed-at q ws ss zs (planned.Refused r) is other h = absurd (other h)
 zeroed-at q ws ss zs (planned.Ready p) is other h = zeroed-ready q ws ss zs p is h
 
--- ---- the others: one list each
-normalized-kept : (store : Store) (s : Set Float) (a : Normalized) (old : List ℤ) → Not 0 (numberOfNormalized a) → writtenBy store s a old ≡ old
-unfolding writtenBy
-normalized-kept store s (normalized.Done p) old n0 = absurd (n0 refl)
-normalized-kept store s (normalized.Refused r) old n0 = refl
+-- ---- the normalisers' two lists
+normalized-kept : (store : Store) (s : Set Float) (a : Normalized) (out excesses : List ℤ) → Not 0 (numberOfNormalized a) → (writtenBy store s a out ≡ out) × (excessesBy store s a excesses ≡ excesses)
+unfolding writtenBy excessesBy
+normalized-kept store s (normalized.Done p) out excesses n0 = absurd (n0 refl)
+normalized-kept store s (normalized.Refused r) out excesses n0 = (refl, refl)
 
+-- ---- the others: one list each
 passed-kept : (a : Passed) (written old : List ℕ) → Not 0 (numberOfPassed a) → after a written old ≡ old
 passed-kept passed.Done written old n0 = absurd (n0 refl)
 passed-kept (passed.Refused r) written old n0 = refl
@@ -136,7 +137,7 @@ sheet-kept false false true n written old n0 = refl
 sheet-kept false false false n written old n0 = absurd (n0 refl)
 
 pub refused-unchanged : RefusedUnchanged
-unfolding writtenOf writtenU16 writtenU8 writtenF32 multipliedList dividedList multipliedList16 dividedList16 byCase
+unfolding writtenOf excessesOf writtenU16 writtenU8 writtenF32 multipliedList dividedList multipliedList16 dividedList16 byCase
 refused-unchanged = record {
   build = λ q ws ss zs n0 n8. (
     kept-as ws (λ p. weightsIn p ws) (length ws) (length ss) (length zs) (planOf q) n0 n8,
@@ -144,7 +145,7 @@ refused-unchanged = record {
     kept-as zs (λ p. sizesIn p zs) (length ws) (length ss) (length zs) (planOf q) n0 n8,
   );
   build-8 = λ q ws ss zs h. zeroed-at q ws ss zs (planOf q) refl (plan-not-8 q) h;
-  normalize = λ store s out n0. normalized-kept store s (normalizedOf store s (length out)) out n0;
+  normalize = λ store s out excesses n0. normalized-kept store s (normalizedOf store s (length out) (length excesses)) out excesses n0;
   pass-u16 = λ s src row first count out n0. passed-kept (passedU16 s (length src) row first count (length out)) _ out n0;
   pass-u8 = λ s src row first count out n0. passed-kept (passedU8 s (length src) row first count (length out)) _ out n0;
   pass-f32 = λ s src row first count out n0. passed-kept-f32 (passedF32 s src row first count (length out)) _ out n0;
@@ -152,5 +153,5 @@ refused-unchanged = record {
   divide = λ src out n0. applied-kept (badLists (length src) (length out)) _ out n0;
   multiply-u16 = λ src out n0. applied-kept (badLists (length src) (length out)) _ out n0;
   divide-u16 = λ src out n0. applied-kept (badLists (length src) (length out)) _ out n0;
-  sheet = λ kind store s out n0. sheet-kept (badSides (s .set .layout .lines) (windows (s .set .layout))) (badStored (s .set .layout) store (length (s .set .weights)) (s .precision)) (noRoom (length out) (length (sheetText kind store s))) (length (sheetText kind store s)) _ out n0;
+  sheet = λ kind store s out n0. sheet-kept (badSides (s .set .layout .lines) (windows (s .set .layout))) (badStored s store) (noRoom (length out) (length (sheetText kind store s))) (length (sheetText kind store s)) _ out n0;
 }

@@ -9,14 +9,15 @@ use lib.Ieee.{Float}
 use lib.ListN.{length, take}
 use Rattle.lists.specs.Tab.{tab}
 use Rattle.filters.specs.declared.FilterType.the-variants.{Box}
-use Rattle.windows.specs.Set.{layoutOf, Set, setOf, Stored, storedOf, windows}
+use Rattle.windows.specs.Set.{layoutOf, Set, setOf, Stored}
 use Rattle.windows.specs.Store.{store32}
 use Rattle.plans.specs.declared.Request.{Request}
 use Rattle.coefficients.specs.declared.Built.{Built}
 use Rattle.coefficients.specs.Answer.{numberOf as numberOfBuilt, windowOf}
 use Rattle.coefficients.specs.Request.{builtOf, weightsOf, startsOf, sizesOf}
 use Rattle.normalizer.specs.declared.Normalized.{Normalized}
-use Rattle.normalizer.specs.Answer.{normalizedOf, writtenOf, numberOf as numberOfNormalized, precisionIn}
+use Rattle.normalizer.specs.Answer.{numberOf as numberOfNormalized}
+use Rattle.normalizer.specs.Left.{answerFor, leftSet}
 use Rattle.vertical.specs.Passed.{numberOf}
 use Rattle.vertical.specs.U16.{passedU16, writtenU16}
 use Rattle.promises.specs.FlatFrames.{NearOne, Flat}
@@ -28,12 +29,8 @@ builtSet q lines ws ss zs w =
     (layoutOf lines w (take (q .output) (startsOf q (length ws) (length ss) (length zs) ss)) (take (q .output) (sizesOf q (length ws) (length ss) (length zs) zs)))
     (take (q .output * w) (weightsOf q (length ws) (length ss) (length zs) ws))
 
--- the set that the 32-bit normaliser leaves of a set in a lent list: the asked slots, with the precision P of its answer
-abbrev pub storedSet : Set Float → ℕ → List ℤ → Stored
-storedSet s P out = storedOf (setOf (s .layout) (take (windows (s .layout) * s .layout .windowSize) (writtenOf store32 s out))) P
-
 -- a request, what is lent to the builder and to the 32-bit normaliser, and what they answer
-module _ (q : Request) (lines : ℕ) (ws : List Float) (ss zs : List ℕ) (out : List ℤ) where
+module _ (q : Request) (lines : ℕ) (ws : List Float) (ss zs : List ℕ) (out excesses : List ℤ) where
   abbrev pub built : Built
   built = builtOf q (length ws) (length ss) (length zs)
 
@@ -41,23 +38,23 @@ module _ (q : Request) (lines : ℕ) (ws : List Float) (ss zs : List ℕ) (out :
   fresh = builtSet q lines ws ss zs (windowOf built)
 
   abbrev pub normal : Normalized
-  normal = normalizedOf store32 fresh (length out)
+  normal = answerFor store32 fresh out excesses
 
   -- Box was asked for, and both answered 0
   abbrev pub Accepted : Type 0
   Accepted = (q .filter ≡ Box) × (numberOfBuilt built ≡ 0) × (numberOfNormalized normal ≡ 0)
 
   abbrev pub stored : Stored
-  stored = storedSet fresh (precisionIn normal) out
+  stored = leftSet store32 fresh out excesses
 
 abbrev pub BoxPremise : Type 0
 BoxPremise =
-    (q : Request) (lines : ℕ) (ws : List Float) (ss zs : List ℕ) (out : List ℤ) → Accepted q lines ws ss zs out
-    → (i : ℕ) → i < q .output → NearOne (stored q lines ws ss zs out) i
+    (q : Request) (lines : ℕ) (ws : List Float) (ss zs : List ℕ) (out excesses : List ℤ) → Accepted q lines ws ss zs out excesses
+    → (i : ℕ) → i < q .output → NearOne (stored q lines ws ss zs out excesses) i
 
 abbrev pub BoxFlat : Type 0
 BoxFlat =
-    (q : Request) (lines : ℕ) (ws : List Float) (ss zs : List ℕ) (out : List ℤ) → Accepted q lines ws ss zs out
+    (q : Request) (lines : ℕ) (ws : List Float) (ss zs : List ℕ) (out excesses : List ℤ) → Accepted q lines ws ss zs out excesses
     → (src : List ℕ) (row first count : ℕ) (old : List ℕ) (v : ℕ)
-    → numberOf (passedU16 (stored q lines ws ss zs out) (length src) row first count (length old)) ≡ 0 → v ≤ 65535 → Flat v src
-    → writtenU16 (stored q lines ws ss zs out) src row first count old ≡ tab 0 (q .output * count) (λ k. v)
+    → numberOf (passedU16 (stored q lines ws ss zs out excesses) (length src) row first count (length old)) ≡ 0 → v ≤ 65535 → Flat v src
+    → writtenU16 (stored q lines ws ss zs out excesses) src row first count old ≡ tab 0 (q .output * count) (λ k. v)

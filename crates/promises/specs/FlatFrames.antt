@@ -2,14 +2,17 @@
 -- Where the weights of a window add up to K, and 2 M times the distance of K from 2^P is under 2^P, a frame that holds one value v up to M everywhere gives v there.
 -- M is the largest sample: for 16-bit samples 2 M is 131070, for 8-bit ones 510. The premise is the customer's. Statements only. Assumes nothing.
 use mathlib.Core.Path.{_≡_}
-use mathlib.Core.Bool.{true}
+use mathlib.Core.Bool.{true, false}
 use mathlib.Core.List.{List}
 use Prim.Native.Nat.{ℕ, _*_, _^_, _≤_, _<_}
-use lib.IntN.{ℤ, pos}
+use lib.Dec.{ltb}
+use lib.IntN.{ℤ, pos, natAbs}
 use lib.ListN.{length, getD}
 use Rattle.lists.specs.Tab.{tab}
 use Rattle.integers.specs.Sums.{sum, distance, value}
+use Rattle.windows.specs.declared.Store.{Store}
 use Rattle.windows.specs.Set.{Stored, windows}
+use Rattle.windows.specs.Fit.{badStored}
 use Rattle.vertical.specs.Frame.{rowOf}
 use Rattle.vertical.specs.declared.Passed.{Passed}
 use Rattle.vertical.specs.Passed.{numberOf}
@@ -27,6 +30,12 @@ NearOne s i = keepsFlat 65535 s i ≡ true
 
 abbrev pub NearOneU8 : Stored → ℕ → Type 0
 NearOneU8 s i = keepsFlat 255 s i ≡ true
+
+-- the premise can be read off a set whose excesses are right: the excess beside window i is K less 2^P
+abbrev pub PremiseOffExcess : Type 0
+PremiseOffExcess =
+    (M : ℕ) (store : Store) (s : Stored) → badStored s store ≡ false → (i : ℕ) → i < windows (s .set .layout)
+    → keepsFlat M s i ≡ ltb (2 * M * natAbs (getD (s .excesses) i (pos 0))) (2 ^ s .precision)
 
 -- every sample of the frame is v
 abbrev pub Flat : ℕ → List ℕ → Type 0

@@ -3,6 +3,7 @@ pub mod FlatFrames
 pub mod ColumnCuts
 pub mod RefusedUnchanged
 pub mod BoxKeepsFlat
+pub mod MakersFit
 pub mod AlphaSteps
 pub mod ClipRule
 pub mod Table

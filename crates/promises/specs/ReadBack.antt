@@ -21,7 +21,7 @@ use Rattle.sheet_scan.specs.declared.StoreLines.{StoreLines}
 use Rattle.sheet_scan.specs.Language.{storeNamed, Taken, limitOf, Accepted, Blank, Acceptable, Longest}
 use Rattle.reader.specs.declared.Reading.{Reading}
 use Rattle.reader.specs.declared.Reading.the-variants.{Loaded}
-use Rattle.reader.specs.Reading.{Lists, lists, TooLittle, Reads, numberOf, byteOf}
+use Rattle.reader.specs.Reading.{Lists, lists, roomOf, TooLittle, Reads, numberOf, byteOf}
 
 -- the set that the lists hold, as the answer beside them says
 abbrev pub heldIn : Sizes → StoreLines → Lists → Stored
@@ -29,6 +29,7 @@ heldIn v w l =
     storedOf
     (setOf (layoutOf (v .lines) (v .«window_size») (take (v .windows) (l .starts)) (take (v .windows) (l .sizes))) (take (v .windows * v .«window_size») (l .weights)))
     (w .precision)
+    (take (v .windows) (l .excesses))
 
 -- what an answer says of a set, and the lists with the set over their beginnings
 abbrev pub sizesIn : FilterType → Stored → Sizes
@@ -38,11 +39,11 @@ abbrev pub storeIn : ℕ → Stored → StoreLines
 storeIn bits s = record { bits = bits; precision = s .precision }
 
 abbrev pub leftIn : Stored → Lists → Lists
-leftIn s lent = lists (over (s .set .weights) (lent .weights)) (over (s .set .layout .starts) (lent .starts)) (over (s .set .layout .sizes) (lent .sizes))
+leftIn s lent = lists (over (s .set .weights) (lent .weights)) (over (s .set .layout .starts) (lent .starts)) (over (s .set .layout .sizes) (lent .sizes)) (over (s .excesses) (lent .excesses))
 
 -- No. 7 is due: the four lines are right, and too little is lent
 abbrev pub Few : List ℕ → Lists → Type 0
-Few text lent = TooLittle text (length (lent .weights)) (length (lent .starts)) (length (lent .sizes))
+Few text lent = TooLittle text (roomOf lent)
 
 module _ (wide : Bool) where
   -- a text is loaded exactly when it is acceptable, unless No. 7 is due, and No. 7 is answered exactly when it is due
@@ -56,7 +57,7 @@ module _ (wide : Bool) where
   abbrev pub ReadOfWritten : Type 0
   ReadOfWritten =
       (kind : FilterType) (bits : ℕ) (s : Stored) (lent : Lists) (r : Reading) (left : Lists) → Accepted wide bits s → Blank s
-      → windows (s .set .layout) * s .set .layout .windowSize ≤ length (lent .weights) → windows (s .set .layout) ≤ length (lent .starts) → windows (s .set .layout) ≤ length (lent .sizes)
+      → windows (s .set .layout) * s .set .layout .windowSize ≤ length (lent .weights) → windows (s .set .layout) ≤ length (lent .starts) → windows (s .set .layout) ≤ length (lent .sizes) → windows (s .set .layout) ≤ length (lent .excesses)
       → Reads wide (sheetText kind (storeNamed bits) s) lent r left → (r ≡ Loaded (sizesIn kind s) (storeIn bits s)) × (left ≡ leftIn s lent)
 
   -- what was read is an accepted set, 0 in the slots past the windows' sizes, whose sheet the text is; writing it again, with room, gives the text

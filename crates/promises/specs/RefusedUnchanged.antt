@@ -21,7 +21,7 @@ use Rattle.coefficients.specs.Answer.{numberOf as numberOfBuilt}
 use Rattle.plan_windows.specs.Lines.{slots, zeroWeight, zeroLine}
 use Rattle.plans.specs.Plan.{planOf}
 use Rattle.coefficients.specs.Request.{builtOf, weightsOf, startsOf, sizesOf}
-use Rattle.normalizer.specs.Answer.{normalizedOf, numberOf as numberOfNormalized, writtenOf}
+use Rattle.normalizer.specs.Answer.{normalizedOf, numberOf as numberOfNormalized, writtenOf, excessesOf}
 use Rattle.vertical.specs.Passed.{numberOf as numberOfPassed}
 use Rattle.vertical.specs.PassedF32.{numberOf as numberOfPassedF32}
 use Rattle.vertical.specs.U16.{passedU16, writtenU16}
@@ -55,7 +55,7 @@ module _ (q : Request) (ws : List Float) (ss zs : List ℕ) where
 pub record RefusedUnchanged : Type 0 where
   pub build : (q : Request) (ws : List Float) (ss zs : List ℕ) → Not 0 (buildNumber q ws ss zs) → Not 8 (buildNumber q ws ss zs) → Kept q ws ss zs
   pub build-8 : (q : Request) (ws : List Float) (ss zs : List ℕ) → buildNumber q ws ss zs ≡ 8 → Zeroed q ws ss zs
-  pub normalize : (store : Store) (s : Set Float) (out : List ℤ) → Not 0 (numberOfNormalized (normalizedOf store s (length out))) → writtenOf store s out ≡ out
+  pub normalize : (store : Store) (s : Set Float) (out excesses : List ℤ) → Not 0 (numberOfNormalized (normalizedOf store s (length out) (length excesses))) → (writtenOf store s (length excesses) out ≡ out) × (excessesOf store s (length out) excesses ≡ excesses)
   pub pass-u16 : (s : Stored) (src : List ℕ) (row first count : ℕ) (out : List ℕ) → Not 0 (numberOfPassed (passedU16 s (length src) row first count (length out))) → writtenU16 s src row first count out ≡ out
   pub pass-u8 : (s : Stored) (src : List ℕ) (row first count : ℕ) (out : List ℕ) → Not 0 (numberOfPassed (passedU8 s (length src) row first count (length out))) → writtenU8 s src row first count out ≡ out
   pub pass-f32 : (s : Set Float) (src : List Float) (row first count : ℕ) (out : List Float) → Not 0 (numberOfPassedF32 (passedF32 s src row first count (length out))) → writtenF32 s src row first count out ≡ out

@@ -10,7 +10,7 @@ use Rattle.integers.specs.Sums.{sum}
 use Rattle.numbers.specs.Whole.{roundAway, narrow}
 use Rattle.colours.specs.Alpha.{multiplied, divided}
 use Rattle.windows.specs.Store.{store16, store32}
-use Rattle.normalizer.specs.Precision.{precision, integer}
+use Rattle.weight_precision.specs.Precision.{precision, integer}
 use Rattle.vertical.specs.Example.{pass4, sharp, even}
 
 -- m / 2^(e + 1), with its sign

@@ -6,7 +6,6 @@ mod marked;
 mod place;
 mod streams;
 mod told;
-mod totals;
 mod unread;
 
 use file::Ends;
@@ -42,14 +41,21 @@ fn judge(text: &[u8]) {
     let mut weights = [0i32; 131072];
     let mut starts = [0u32; 8192];
     let mut sizes = [0u32; 8192];
-    read(text, &mut weights, &mut starts, &mut sizes);
+    let mut excesses = [0i64; 8192];
+    read(text, &mut weights, &mut starts, &mut sizes, &mut excesses);
 }
 
 // The sheet, read and told.
-fn read(text: &[u8], weights: &mut [i32], starts: &mut [u32], sizes: &mut [u32]) {
-    let answer = reader::read_sheet(text, weights, starts, sizes);
+fn read(
+    text: &[u8],
+    weights: &mut [i32],
+    starts: &mut [u32],
+    sizes: &mut [u32],
+    excesses: &mut [i64],
+) {
+    let answer = reader::read_sheet(text, weights, starts, sizes, excesses);
     match answer {
-        Reading::Loaded(head, store) => told::sheet(head, store, weights, starts, sizes),
+        Reading::Loaded(head, store) => told::sheet(head, store, starts, sizes, excesses),
         Reading::TooFew => unread::too_large(),
         Reading::NotASheet(byte) => marked::refused(text, byte),
     }

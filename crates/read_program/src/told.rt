@@ -1,7 +1,7 @@
 // What a sheet says, in words: its head, then a line for each window.
 use crate::streams::out;
 use crate::streams::out_number;
-use crate::totals;
+use answer_lines::size;
 use filters::FilterType;
 use sheet::keys;
 use sheet_scan::Sizes;
@@ -11,9 +11,9 @@ use sheet_scan::StoreLines;
 pub(crate) fn sheet(
     head: Sizes,
     store: StoreLines,
-    weights: &[i32],
     starts: &[u32],
     sizes: &[u32],
+    excesses: &[i64],
 ) {
     let kind = head.kind;
     out(b"filter ");
@@ -29,11 +29,10 @@ pub(crate) fn sheet(
     out(b"\n");
     windows(
         head.windows as usize,
-        head.window_size as usize,
         store.precision,
-        weights,
         starts,
         sizes,
+        excesses,
     );
 }
 
@@ -53,16 +52,8 @@ fn name(kind: FilterType) {
     }
 }
 
-// A line for each of so many windows; `at` is where the slots of window i begin.
-fn windows(
-    count: usize,
-    wide: usize,
-    precision: u32,
-    weights: &[i32],
-    starts: &[u32],
-    sizes: &[u32],
-) {
-    let mut at: usize = 0;
+// A line for each of so many windows.
+fn windows(count: usize, precision: u32, starts: &[u32], sizes: &[u32], excesses: &[i64]) {
     let mut i: usize = 0;
     while i < count {
         if starts.len() <= i {
@@ -71,30 +62,16 @@ fn windows(
         if sizes.len() <= i {
             return;
         }
-        window(i, precision, starts[i], sizes[i], at, weights);
-        at = further(at, wide);
+        if excesses.len() <= i {
+            return;
+        }
+        window(i, precision, starts[i], sizes[i], excesses[i]);
         i += 1;
     }
 }
 
-// The place so many slots on; the last place there is where that is past it.
-fn further(at: usize, n: usize) -> usize {
-    if usize::MAX - at < n {
-        return usize::MAX;
-    }
-    at + n
-}
-
 // The line of window i.
-fn window(i: usize, precision: u32, start: u32, size: u32, at: usize, weights: &[i32]) {
-    let n = size as usize;
-    let e = further(at, n);
-    if weights.len() < e {
-        return;
-    }
-    if e < at {
-        return;
-    }
+fn window(i: usize, precision: u32, start: u32, size: u32, excess: i64) {
     out(b"display line ");
     out_number(i as u64);
     out(b": camera lines ");
@@ -103,7 +80,7 @@ fn window(i: usize, precision: u32, start: u32, size: u32, at: usize, weights: &
     out_number(last(start, size));
     out(b", weights add up to 2^");
     out_number(precision as u64);
-    beside(&weights[at..e], precision);
+    beside(excess);
     out(b"\n");
 }
 
@@ -117,15 +94,14 @@ fn last(start: u32, size: u32) -> u64 {
 }
 
 // What the total is more or less than 2^precision.
-fn beside(weights: &[i32], precision: u32) {
-    let above = totals::total(false, weights);
-    let below = totals::sum(totals::total(true, weights), totals::unit(precision));
-    if above < below {
+fn beside(excess: i64) {
+    if excess < 0 {
         out(b" - ");
-        out_number(below - above);
     }
-    if below < above {
+    if 0 < excess {
         out(b" + ");
-        out_number(above - below);
+    }
+    if excess != 0 {
+        out_number(size(excess));
     }
 }

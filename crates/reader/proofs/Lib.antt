@@ -1,4 +1,3 @@
-pub mod LineLaws
 pub mod LayoutLaws
 pub mod FillLaws
 pub mod SlotLaws

@@ -10,6 +10,7 @@ use lib.Seq.{take-append-seam}
 use Rattle.text.specs.Text.{over}
 use Rattle.lists.proofs.BoolLaws.{never}
 use Rattle.windows.specs.Set.{Stored, layoutOf, setOf, storedOf, windows}
+use Rattle.windows.specs.Fit.{unfit}
 use Rattle.sheet.specs.Text.{sheetText}
 use Rattle.scan.specs.Form.{Found}
 use Rattle.scan.proofs.FormLaws.{found-at, one-value}
@@ -18,6 +19,7 @@ use Rattle.sheet_scan.specs.declared.StoreLines.{StoreLines}
 use Rattle.sheet_scan.specs.Language.{storeNamed, Accepted, Blank, Acceptable, Longest, Whole, sheets}
 use Rattle.sheet_scan.specs.Lines.{sizeLines}
 use Rattle.sheet_scan.specs.Whole.{restLines}
+use Rattle.excesses.proofs.StoredLaws.{excess-count}
 use Rattle.sheet_scan.proofs.SetLaws.{rowsOf}
 use Rattle.sheet_scan.proofs.BackLaws.{fit}
 use Rattle.sheet_scan.proofs.HeadLaws.{apart-sizes}
@@ -25,18 +27,22 @@ use Rattle.sheet_scan.proofs.WholeLaws.{sizesOf, storeOf, parts-good, parts-tex
 use Rattle.sheet_scan.proofs.LanguageLaws.{one-byte}
 use Rattle.reader.specs.declared.Reading.{Reading}
 use Rattle.reader.specs.declared.Reading.the-variants.{Loaded, TooFew, NotASheet}
-use Rattle.reader.specs.Reading.{Lists, lists, tooFewSlots, TooLittle, Loads, Reads}
+use Rattle.reader.specs.Reading.{Lists, lists, roomOf, tooFewSlots, TooLittle, Loads, Reads}
 
--- the same of three lists
+-- the same of lists
 abbrev short : Sizes → Lists → Bool
-short v lent = tooFewSlots v (length (lent .weights)) (length (lent .starts)) (length (lent .sizes))
+short v lent = tooFewSlots v (roomOf lent)
 
 abbrev Little : List ℕ → Lists → Type 0
-Little text lent = TooLittle text (length (lent .weights)) (length (lent .starts)) (length (lent .sizes))
+Little text lent = TooLittle text (roomOf lent)
 
 -- what the lists hold once a set is in them
 abbrev pub leftBy : Stored → Lists → Lists
-leftBy s lent = lists (over (s .set .weights) (lent .weights)) (over (s .set .layout .starts) (lent .starts)) (over (s .set .layout .sizes) (lent .sizes))
+leftBy s lent = lists (over (s .set .weights) (lent .weights)) (over (s .set .layout .starts) (lent .starts)) (over (s .set .layout .sizes) (lent .sizes)) (over (s .excesses) (lent .excesses))
+
+-- the set that lists hold, of so many windows
+abbrev pub heldSet : Sizes → StoreLines → Lists → Stored
+heldSet v w left = storedOf (setOf (layoutOf (v .lines) (v .«window_size») (take (v .windows) (left .starts)) (take (v .windows) (left .sizes))) (take (v .windows * v .«window_size») (left .weights))) (w .precision) (take (v .windows) (left .excesses))
 
 take-over : {A : Type 0} (t old : List A) (n : ℕ) → length t ≡ n → take n (over t old) ≡ t
 unfolding over
@@ -69,7 +75,7 @@ module _ (wide : Bool) where
     same-whole x a blank e = apart-sheets wide wholeRead x (l .accepted, l .blank) (a, blank) [] [] (ap (λ (t : List ℕ). t ++ []) (sym (l .is) ∙ e))
 
     left-is : left ≡ leftBy (l .set) lent
-    left-is = λ i. lists (l .weights i) (l .starts i) (l .sizes i)
+    left-is = λ i. lists (l .weights i) (l .starts i) (l .sizes i) (l .excesses i)
 
     -- a loaded text is not one that No. 7 is due for
     no-seven : Little text lent → ⊥
@@ -81,14 +87,15 @@ module _ (wide : Bool) where
     is-acceptable = record { kind = v .kind; bits = w .bits; set = l .set; accepted = l .accepted; is = l .is }
 
     -- the set that the lists hold
-    pub set-held : storedOf (setOf (layoutOf (v .lines) (v .«window_size») (take (v .windows) (left .starts)) (take (v .windows) (left .sizes))) (take (v .windows * v .«window_size») (left .weights))) (w .precision) ≡ l .set
+    pub set-held : heldSet v w left ≡ l .set
     set-held =
         let s = l .set .set in
         let f = fit wide (w .bits) (l .set) (l .accepted) in
         let e-w : take (v .windows * v .«window_size») (left .weights) ≡ s .weights = rw (l .weights, l .count, l .windowSize) (take-over (s .weights) (lent .weights) (windows (s .layout) * s .layout .windowSize) (f .full)) in
         let e-s : take (v .windows) (left .starts) ≡ s .layout .starts = rw (l .starts, l .count) (take-over (s .layout .starts) (lent .starts) (windows (s .layout)) refl) in
         let e-z : take (v .windows) (left .sizes) ≡ s .layout .sizes = rw (l .sizes, l .count) (take-over (s .layout .sizes) (lent .sizes) (windows (s .layout)) (sym (f .pairs))) in
-        λ i. storedOf (setOf (layoutOf (l .lines i) (l .windowSize i) (e-s i) (e-z i)) (e-w i)) (l .precision i)
+        let e-e : take (v .windows) (left .excesses) ≡ l .set .excesses = rw (l .excesses, l .count) (take-over (l .set .excesses) (lent .excesses) (windows (s .layout)) (excess-count (l .set) (storeNamed (w .bits)) (l .accepted .fits))) in
+        λ i. storedOf (setOf (layoutOf (l .lines i) (l .windowSize i) (e-s i) (e-z i)) (e-w i)) (l .precision i) (e-e i)
 
   -- READ OF WRITTEN: reading a sheet that was written of an accepted set, whose slots past the windows' sizes are 0, with enough lent, loads that set
   pub read-of-written : (x : Whole) (lent : Lists) (r : Reading) (left : Lists) → Accepted wide (x .bits) (x .set) → Blank (x .set) → short (sizesOf x) lent ≡ false → Reads wide (sheets wide .text x) lent r left → (r ≡ Loaded (sizesOf x) (storeOf x)) × (left ≡ leftBy (x .set) lent)
@@ -102,8 +109,14 @@ module _ (wide : Bool) where
 
   module _ (text : List ℕ) (lent : Lists) where
     -- WRITTEN OF READ: the sheet of the set that the lists hold is the text that was read
-    pub written-of-read : (v : Sizes) (w : StoreLines) (left : Lists) → Reads wide text lent (Loaded v w) left → sheetText (v .kind) (storeNamed (w .bits)) (storedOf (setOf (layoutOf (v .lines) (v .«window_size») (take (v .windows) (left .starts)) (take (v .windows) (left .sizes))) (take (v .windows * v .«window_size») (left .weights))) (w .precision)) ≡ text
+    pub written-of-read : (v : Sizes) (w : StoreLines) (left : Lists) → Reads wide text lent (Loaded v w) left → sheetText (v .kind) (storeNamed (w .bits)) (heldSet v w left) ≡ text
     written-of-read v w left l = ap (sheetText (v .kind) (storeNamed (w .bits))) (set-held l) ∙ sym (l .is)
+
+    -- WHAT IS LEFT PASSES THE JUDGE of a stored set: the set that the lists hold is neither of No. 1 nor of No. 10
+    pub left-fits : (v : Sizes) (w : StoreLines) (left : Lists) → Reads wide text lent (Loaded v w) left → unfit (heldSet v w left) (storeNamed (w .bits)) ≡ false
+    left-fits v w left l =
+        let own : unfit (l .set) (storeNamed (w .bits)) ≡ false = rw (l .accepted .sides) (l .accepted .fits) in
+        subst (λ (s : Stored). unfit s (storeNamed (w .bits)) ≡ false) (sym (set-held l)) own
 
     -- LOADED EXACTLY WHEN ACCEPTABLE, where No. 7 is not due
     pub loaded-acceptable : (v : Sizes) (w : StoreLines) (left : Lists) → Reads wide text lent (Loaded v w) left → Acceptable wide text

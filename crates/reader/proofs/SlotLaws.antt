@@ -20,7 +20,8 @@ use Rattle.scan.proofs.PieceLaws.{placeAt}
 use Rattle.sheet_scan.specs.Lines.{Row, weightItem, openLine, windowLine}
 use Rattle.sheet_scan.specs.Rows.{noRow, slotAt}
 use Rattle.sheet_scan.specs.Whole.{There, Whatever, slotOf, noWeight}
-use Rattle.reader.proofs.LineLaws.{Lined, lined-none, own, lined-more}
+use Rattle.excess_scan.proofs.AlongLaws.{along-none}
+use Rattle.excess_scan.proofs.LineLaws.{Lined, own, lined-more}
 
 -- a window's weights over zeros: its slots
 pub over-zeros : (l : List ℤ) (size n : ℕ) → length l ≡ size → size ≤ n → front size (slotOf l) (tab 0 n noWeight) ≡ tab 0 n (slotOf l)
@@ -50,7 +51,7 @@ module _ (lines window limit outs : ℕ) (text : List ℕ) (at : ℕ) (weights :
 
   pub slotted-none : at ≤ length text → Slotted weights at 0 0
   slotted-none l = record {
-    lined = lined-none lines window limit outs text at l;
+    lined = along-none (windowLine lines window limit) text outs at l;
     off = sym (zero-mul window);
     long = refl;
     each = λ rows next f. written-none {f = grid window (slotAt rows)} {old = weights} .is ∙ ap (λ (n : ℕ). front n (grid window (slotAt rows)) weights) (sym (zero-mul window));

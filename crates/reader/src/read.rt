@@ -17,10 +17,18 @@ pub fn read_sheet(
     weights: &mut [i32],
     starts: &mut [u32],
     sizes: &mut [u32],
+    excesses: &mut [i64],
 ) -> Reading
-    ensures reads { λ r. ⌜ Reads true (now (text .entry)) (lists (now (weights .entry)) (now (starts .entry)) (now (sizes .entry))) r (lists (now (weights .exit)) (now (starts .exit)) (now (sizes .exit))) ⌝ }
+    ensures reads { λ r. ⌜ Reads true (now (text .entry)) (lists (now (weights .entry)) (now (starts .entry)) (now (sizes .entry)) (now (excesses .entry))) r (lists (now (weights .exit)) (now (starts .exit)) (now (sizes .exit)) (now (excesses .exit))) ⌝ }
 {
-    let judged = judge(true, text, weights.len(), starts.len(), sizes.len());
+    let judged = judge(
+        true,
+        text,
+        weights.len(),
+        starts.len(),
+        sizes.len(),
+        excesses.len(),
+    );
     let Judged::Right(v, store, mid) = judged else {
         return reading_of(judged);
     };
@@ -30,10 +38,12 @@ pub fn read_sheet(
         v.windows,
         v.window_size,
         limit,
+        store.precision,
         text,
         mid,
         starts,
         sizes,
+        excesses,
     );
     fill_slots32(v.lines, v.windows, v.window_size, limit, text, mid, weights);
     Reading::Loaded(v, store)
@@ -45,10 +55,18 @@ pub fn read_sheet16(
     weights: &mut [i16],
     starts: &mut [u32],
     sizes: &mut [u32],
+    excesses: &mut [i64],
 ) -> Reading
-    ensures reads { λ r. ⌜ Reads false (now (text .entry)) (lists (now (weights .entry)) (now (starts .entry)) (now (sizes .entry))) r (lists (now (weights .exit)) (now (starts .exit)) (now (sizes .exit))) ⌝ }
+    ensures reads { λ r. ⌜ Reads false (now (text .entry)) (lists (now (weights .entry)) (now (starts .entry)) (now (sizes .entry)) (now (excesses .entry))) r (lists (now (weights .exit)) (now (starts .exit)) (now (sizes .exit)) (now (excesses .exit))) ⌝ }
 {
-    let judged = judge(false, text, weights.len(), starts.len(), sizes.len());
+    let judged = judge(
+        false,
+        text,
+        weights.len(),
+        starts.len(),
+        sizes.len(),
+        excesses.len(),
+    );
     let Judged::Right(v, store, mid) = judged else {
         return reading_of(judged);
     };
@@ -58,10 +76,12 @@ pub fn read_sheet16(
         v.windows,
         v.window_size,
         limit,
+        store.precision,
         text,
         mid,
         starts,
         sizes,
+        excesses,
     );
     fill_slots16(v.lines, v.windows, v.window_size, limit, text, mid, weights);
     Reading::Loaded(v, store)

@@ -1,6 +1,6 @@
 // One word or one element of a list, by the letter of its kind:
 //   b u8, h u16, w u32, n a lent length, m the room of a sheet: decimal, up to a largest number;
-//   i i16, j i32: decimal with a minus sign or none;
+//   i i16, j i32, q i64: decimal with a minus sign or none;
 //   x a double's pattern, y a single's, z 0 or 1: so many hexadecimal digits;
 //   t a text: two hexadecimal digits a byte;
 //   k a filter's name, which is looked up by whoever knows the filters.
@@ -18,6 +18,7 @@ fn most(kind: u8) -> u64 {
         b'm' => 524288,
         b'i' => 32767,
         b'j' => 2147483647,
+        b'q' => 0x7fff_ffff_ffff_ffff,
         b'z' => 1,
         _ => 0xffff_ffff_ffff_ffff,
     }
@@ -46,7 +47,7 @@ pub(crate) fn item(s: &[u8], a: usize, e: usize, kind: u8) -> Number {
         }
         return numerals::read_number(16, s, a, n, most(kind));
     }
-    if (kind == b'i') | (kind == b'j') {
+    if (kind == b'i') | (kind == b'j') | (kind == b'q') {
         return signed::code(s, a, n, most(kind));
     }
     if kind == b'k' {

@@ -8,6 +8,7 @@ pub mod f64s;
 pub mod fields;
 pub mod i16s;
 pub mod i32s;
+pub mod i64s;
 mod item;
 mod pairs;
 mod shape;

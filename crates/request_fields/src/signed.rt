@@ -9,7 +9,7 @@ pub(crate) fn code(s: &[u8], a: usize, n: usize, most: u64) -> Number {
     if n == 0 {
         return Number::Malformed;
     }
-    if 0xffff_ffff < most {
+    if 0x7fff_ffff_ffff_ffff < most {
         return Number::Malformed;
     }
     if s[a] == b'-' {
@@ -26,7 +26,7 @@ fn negative(size: Number) -> Number {
     if x == 0 {
         return Number::Malformed;
     }
-    if 0xffff_ffff < x {
+    if 0x8000_0000_0000_0000 < x {
         return Number::Malformed;
     }
     Number::Is((x - 1) * 2 + 1)
@@ -37,10 +37,18 @@ fn positive(size: Number) -> Number {
     let Number::Is(x) = size else {
         return Number::Malformed;
     };
-    if 0xffff_ffff < x {
+    if 0x7fff_ffff_ffff_ffff < x {
         return Number::Malformed;
     }
     Number::Is(x * 2)
+}
+
+// The i64 of a code of `code`.
+pub(crate) fn to_i64(code: u64) -> i64 {
+    if code % 2 == 0 {
+        return pos64(code / 2);
+    }
+    neg64(code / 2)
 }
 
 // The i32 of a code of `code`.
@@ -59,6 +67,14 @@ pub(crate) fn to_i16(code: u64) -> i16 {
     neg16(code / 2)
 }
 
+// x itself; 0 for what no code of an i64 has.
+pub(crate) fn pos64(x: u64) -> i64 {
+    if 0x7fff_ffff_ffff_ffff < x {
+        return 0;
+    }
+    x as i64
+}
+
 // x itself; 0 for what no code of an i32 has.
 pub(crate) fn pos32(x: u64) -> i32 {
     if 2147483647 < x {
@@ -73,6 +89,15 @@ pub(crate) fn pos16(x: u64) -> i16 {
         return 0;
     }
     x as i16
+}
+
+// -(x + 1)
+fn neg64(x: u64) -> i64 {
+    if 0x7fff_ffff_ffff_ffff < x {
+        return 0;
+    }
+    let y = x as i64;
+    -1 - y
 }
 
 // -(x + 1)

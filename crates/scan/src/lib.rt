@@ -2,12 +2,14 @@
 // The functions are workers of the readers of sheets: the caller shows that the place is inside the text and that the range has a number.
 mod digits;
 mod fields;
+mod known;
 mod signs;
 mod words;
 
 pub use digits::take_number;
 pub use fields::number_stop;
 pub use fields::take_field;
+pub use known::take_known;
 pub use signs::take_signed;
 pub use words::take_key;
 

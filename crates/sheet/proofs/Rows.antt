@@ -24,18 +24,18 @@ numbered false false true n = refl
 numbered false false false n = refl
 
 module _ (kind : FilterType) (store : Store) (s : Stored) (room : ℕ) where
-  -- the tests in the order of judging, each with its number: sides; lists, windows and precision; room for the text
+  -- the tests in the order of judging, each with its number: sides; lists, windows, precision and excesses; room for the text
   abbrev pub rows : List (Bool × ℕ)
   rows =
       (badSides (s .set .layout .lines) (windows (s .set .layout)), 1)
-      ∷ (badStored (s .set .layout) store (length (s .set .weights)) (s .precision), 10)
+      ∷ (badStored s store, 10)
       ∷ (noRoom room (length (sheetText kind store s)), 11)
       ∷ []
 
   is : numberOf (answerOf kind store s room) ≡ given rows
   unfolding byCase
   is =
-      numbered (badSides (s .set .layout .lines) (windows (s .set .layout))) (badStored (s .set .layout) store (length (s .set .weights)) (s .precision))
+      numbered (badSides (s .set .layout .lines) (windows (s .set .layout))) (badStored s store)
       (noRoom room (length (sheetText kind store s))) (length (sheetText kind store s))
 
   pub written-exactly : (n : ℕ) → Exactly (numberOf (answerOf kind store s room) ≡ n) (Due n rows)

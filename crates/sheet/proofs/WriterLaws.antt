@@ -37,11 +37,11 @@ module _ (kind : FilterType) (store : Store) (s : Stored) (old : List ℕ) where
   side-refused h = rw h (refl, refl)
 
   module _ (sides : badSides (s .set .layout .lines) (windows (s .set .layout)) ≡ false) where
-    pub misfit-refused : badStored (s .set .layout) store (length (s .set .weights)) (s .precision) ≡ true → Meets (Refused DoesNotFit) old
+    pub misfit-refused : badStored s store ≡ true → Meets (Refused DoesNotFit) old
     unfolding byCase
     misfit-refused h = rw (sides, h) (refl, refl)
 
-    module _ (fits : badStored (s .set .layout) store (length (s .set .weights)) (s .precision) ≡ false) where
+    module _ (fits : badStored s store ≡ false) where
       pub room-refused : length old < length (sheetText kind store s) → Meets (Refused NoRoom) old
       unfolding byCase
       room-refused h = rw (sides, fits, short-room (length old) (length (sheetText kind store s)) h) (refl, refl)

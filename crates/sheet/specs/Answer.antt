@@ -26,7 +26,7 @@ noRoom room text = ltb room text
 unfoldable pub byCase : {A : Type 0} → Store → Stored → ℕ → ℕ → (Refusal → A) → A → A
 byCase store s room text refused done =
     cond (badSides (s .set .layout .lines) (windows (s .set .layout))) (refused BadSide)
-    (cond (badStored (s .set .layout) store (length (s .set .weights)) (s .precision)) (refused DoesNotFit)
+    (cond (badStored s store) (refused DoesNotFit)
     (cond (noRoom room text) (refused NoRoom)
     done))
 

@@ -32,6 +32,10 @@ keyPrecision = 112 ∷ 114 ∷ 101 ∷ 99 ∷ 105 ∷ 115 ∷ 105 ∷ 111 ∷ 11
 abbrev pub keyLine : List ℕ
 keyLine = 119 ∷ []
 
+-- excess=
+abbrev pub keyExcess : List ℕ
+keyExcess = 101 ∷ 120 ∷ 99 ∷ 101 ∷ 115 ∷ 115 ∷ 61 ∷ []
+
 abbrev pub equals : List ℕ
 equals = 61 ∷ []
 

@@ -1,4 +1,4 @@
-// `sheet`: a weight set written as text, key=value lines that a line engineer can read. `write_sheet16` and `write_sheet32` judge the set
+// `sheet`: a weight set written as text, key=value lines that a line engineer can read. `write_sheet16` and `write_sheet32` judge the set (`excesses`)
 // and the room, then lay `sheetText` over the beginning of the lent list. The text's length comes from the same run over a list of one byte,
 // since what falls past a list's end is not written and counted all the same. Both stores are one function over two lists, of which a store has one.
 mod answer;
@@ -7,6 +7,10 @@ mod lines;
 mod parts;
 mod writer;
 
+use excesses::NO_LONG;
+use excesses::NO_SHORT;
+use excesses::stored_fits16;
+use excesses::stored_fits32;
 use filters::FilterType;
 use refusal::Refusal;
 use windows::STORE16;
@@ -24,11 +28,6 @@ pub enum Sheet {
     Refused(Refusal),
 }
 
-// lent in place of the list that a store has not
-const NO_SHORT: [i16; 1] = [0];
-
-const NO_LONG: [i32; 1] = [0];
-
 // The sheet of a set with weights of 16 bits, or nothing, for any numbers and lists.
 pub fn write_sheet16(
     kind: FilterType,
@@ -38,22 +37,34 @@ pub fn write_sheet16(
     weights: &[i16],
     starts: &[u32],
     sizes: &[u32],
+    excesses: &[i64],
     out: &mut [u8],
 ) -> Sheet
-    ensures answer { λ r. ⌜ r ≡ answerOf kind store16 (storedOf (setOf (layoutOf lines «window_size» (now (starts .entry)) (now (sizes .entry))) (now (weights .entry))) precision) (length (now (out .entry))) ⌝ }
-    ensures written { λ _. ⌜ now (out .exit) ≡ writtenOf kind store16 (storedOf (setOf (layoutOf lines «window_size» (now (starts .entry)) (now (sizes .entry))) (now (weights .entry))) precision) (now (out .entry)) ⌝ }
+    ensures answer { λ r. ⌜ r ≡ answerOf kind store16 (storedOf (setOf (layoutOf lines «window_size» (now (starts .entry)) (now (sizes .entry))) (now (weights .entry))) precision (now (excesses .entry))) (length (now (out .entry))) ⌝ }
+    ensures written { λ _. ⌜ now (out .exit) ≡ writtenOf kind store16 (storedOf (setOf (layoutOf lines «window_size» (now (starts .entry)) (now (sizes .entry))) (now (weights .entry))) precision (now (excesses .entry))) (now (out .entry)) ⌝ }
 {
+    let fits = stored_fits16(
+        lines,
+        window_size,
+        precision,
+        weights,
+        starts,
+        sizes,
+        excesses,
+    );
     write(
         kind,
         STORE16,
         lines,
         window_size,
         precision,
+        fits,
         false,
         weights,
         &NO_LONG,
         starts,
         sizes,
+        excesses,
         out,
     )
 }
@@ -67,22 +78,34 @@ pub fn write_sheet32(
     weights: &[i32],
     starts: &[u32],
     sizes: &[u32],
+    excesses: &[i64],
     out: &mut [u8],
 ) -> Sheet
-    ensures answer { λ r. ⌜ r ≡ answerOf kind store32 (storedOf (setOf (layoutOf lines «window_size» (now (starts .entry)) (now (sizes .entry))) (now (weights .entry))) precision) (length (now (out .entry))) ⌝ }
-    ensures written { λ _. ⌜ now (out .exit) ≡ writtenOf kind store32 (storedOf (setOf (layoutOf lines «window_size» (now (starts .entry)) (now (sizes .entry))) (now (weights .entry))) precision) (now (out .entry)) ⌝ }
+    ensures answer { λ r. ⌜ r ≡ answerOf kind store32 (storedOf (setOf (layoutOf lines «window_size» (now (starts .entry)) (now (sizes .entry))) (now (weights .entry))) precision (now (excesses .entry))) (length (now (out .entry))) ⌝ }
+    ensures written { λ _. ⌜ now (out .exit) ≡ writtenOf kind store32 (storedOf (setOf (layoutOf lines «window_size» (now (starts .entry)) (now (sizes .entry))) (now (weights .entry))) precision (now (excesses .entry))) (now (out .entry)) ⌝ }
 {
+    let fits = stored_fits32(
+        lines,
+        window_size,
+        precision,
+        weights,
+        starts,
+        sizes,
+        excesses,
+    );
     write(
         kind,
         STORE32,
         lines,
         window_size,
         precision,
+        fits,
         true,
         &NO_SHORT,
         weights,
         starts,
         sizes,
+        excesses,
         out,
     )
 }

@@ -1,27 +1,17 @@
-// The windows' lines. A set's weights are lent in the list of their own width; the list of the other width is not looked at.
+// The windows' lines and the line of the excesses. A set's weights are lent in the list of their own width; the list of the other width is not looked at.
 use crate::keys;
 use crate::parts::put_item;
 use crate::parts::put_open;
+use excesses::weight_at;
+use text::put;
 use text::put_byte;
 ghost use mathlib.Core.Path.{_≡_};
 ghost use Prim.Native.Nat.{_+_, _^_, _<_, _≤_};
-ghost use lib.IntN.{pos};
-ghost use lib.ListN.{length, getD};
+ghost use lib.ListN.{length};
 ghost use Rattle.text.specs.Text.{laid, reached};
-ghost use Rattle.windows.specs.Set.{layoutOf};
+ghost use Rattle.windows.specs.Set.{layoutOf, lent};
 ghost use Rattle.windows.specs.Fit.{Fits};
-ghost use Rattle.sheet.specs.Text.{lent, weightsText, windowsText};
-
-// The weight in the slot k.
-fn weight_at(wide: bool, short: &[i16], long: &[i32], k: usize) -> i64
-    requires { ⌜ k < length (lent wide (now short) (now long)) ⌝ }
-    ensures answer { λ r. ⌜ r ≡ getD (lent wide (now (short .entry)) (now (long .entry))) k (pos 0) ⌝ }
-{
-    if wide {
-        return long[k] as i64;
-    }
-    short[k] as i64
-}
+ghost use Rattle.sheet.specs.Text.{listText, windowsText, excessText};
 
 // `size` weights from the slot `from` on.
 fn put_weights(
@@ -34,8 +24,8 @@ fn put_weights(
     out: &mut [u8],
 ) -> usize
     requires { ⌜ from + size ≤ length (lent wide (now short) (now long)) ⌝ }
-    ensures answer { λ r. ⌜ r ≡ reached at (length (weightsText (lent wide (now (short .entry)) (now (long .entry))) from size)) ⌝ }
-    ensures written { λ _. ⌜ now (out .exit) ≡ laid (now (out .entry)) at (weightsText (lent wide (now (short .entry)) (now (long .entry))) from size) ⌝ }
+    ensures answer { λ r. ⌜ r ≡ reached at (length (listText (lent wide (now (short .entry)) (now (long .entry))) from size)) ⌝ }
+    ensures written { λ _. ⌜ now (out .exit) ≡ laid (now (out .entry)) at (listText (lent wide (now (short .entry)) (now (long .entry))) from size) ⌝ }
 {
     let n = size as usize;
     let mut p = at;
@@ -74,4 +64,28 @@ pub(crate) fn put_windows(
         i += 1;
     }
     p
+}
+
+// The numbers of a list.
+fn put_list(list: &[i64], at: usize, out: &mut [u8]) -> usize
+    ensures answer { λ r. ⌜ r ≡ reached at (length (listText (now (list .entry)) 0 (length (now (list .entry))))) ⌝ }
+    ensures written { λ _. ⌜ now (out .exit) ≡ laid (now (out .entry)) at (listText (now (list .entry)) 0 (length (now (list .entry)))) ⌝ }
+{
+    let mut p = at;
+    let mut j: usize = 0;
+    while j < list.len() {
+        p = put_item(j, list[j], p, out);
+        j += 1;
+    }
+    p
+}
+
+// The line of the excesses.
+pub(crate) fn put_excesses(excesses: &[i64], at: usize, out: &mut [u8]) -> usize
+    ensures answer { λ r. ⌜ r ≡ reached at (length (excessText (now (excesses .entry)))) ⌝ }
+    ensures written { λ _. ⌜ now (out .exit) ≡ laid (now (out .entry)) at (excessText (now (excesses .entry))) ⌝ }
+{
+    let a = put(&keys::EXCESS, at, out);
+    let b = put_list(excesses, a, out);
+    put_byte(keys::NEWLINE, b, out)
 }

@@ -1,30 +1,21 @@
 // The sheet of either store: `wide` says in which list its weights are lent.
 use crate::Sheet;
+use crate::lines::put_excesses;
 use crate::lines::put_windows;
 use crate::parts::put_head;
 use filters::FilterType;
 use refusal::Refusal;
 use windows::Store;
 use windows::sides_fit;
-use windows::stored_fits;
 ghost use mathlib.Core.Path.{_≡_};
+ghost use mathlib.Core.Bool.{not};
 ghost use Prim.Native.Nat.{_^_, _<_};
 ghost use lib.ListN.{length};
 ghost use Rattle.text.specs.Text.{laid, reached};
-ghost use Rattle.windows.specs.Set.{layoutOf, setOf, storedOf};
-ghost use Rattle.windows.specs.Fit.{Fits};
-ghost use Rattle.sheet.specs.Text.{lent, sheetText};
+ghost use Rattle.windows.specs.Set.{layoutOf, setOf, storedOf, lent};
+ghost use Rattle.windows.specs.Fit.{unfit, Fits};
+ghost use Rattle.sheet.specs.Text.{sheetText};
 ghost use Rattle.sheet.specs.Answer.{answerOf, writtenOf};
-
-// How many slots are lent.
-fn slot_count(wide: bool, short: &[i16], long: &[i32]) -> usize
-    ensures answer { λ r. ⌜ r ≡ length (lent wide (now (short .entry)) (now (long .entry))) ⌝ }
-{
-    if wide {
-        return long.len();
-    }
-    short.len()
-}
 
 // The whole sheet.
 fn put_sheet(
@@ -38,11 +29,12 @@ fn put_sheet(
     long: &[i32],
     starts: &[u32],
     sizes: &[u32],
+    excesses: &[i64],
     out: &mut [u8],
 ) -> usize
     requires { ⌜ Fits (layoutOf lines «window_size» (now starts) (now sizes)) (length (lent wide (now short) (now long))) ⌝ }
-    ensures answer { λ r. ⌜ r ≡ reached 0 (length (sheetText kind store (storedOf (setOf (layoutOf lines «window_size» (now (starts .entry)) (now (sizes .entry))) (lent wide (now (short .entry)) (now (long .entry)))) precision))) ⌝ }
-    ensures written { λ _. ⌜ now (out .exit) ≡ laid (now (out .entry)) 0 (sheetText kind store (storedOf (setOf (layoutOf lines «window_size» (now (starts .entry)) (now (sizes .entry))) (lent wide (now (short .entry)) (now (long .entry)))) precision)) ⌝ }
+    ensures answer { λ r. ⌜ r ≡ reached 0 (length (sheetText kind store (storedOf (setOf (layoutOf lines «window_size» (now (starts .entry)) (now (sizes .entry))) (lent wide (now (short .entry)) (now (long .entry)))) precision (now (excesses .entry))))) ⌝ }
+    ensures written { λ _. ⌜ now (out .exit) ≡ laid (now (out .entry)) 0 (sheetText kind store (storedOf (setOf (layoutOf lines «window_size» (now (starts .entry)) (now (sizes .entry))) (lent wide (now (short .entry)) (now (long .entry)))) precision (now (excesses .entry)))) ⌝ }
 {
     let p = put_head(
         kind,
@@ -54,7 +46,7 @@ fn put_sheet(
         0,
         out,
     );
-    put_windows(
+    let q = put_windows(
         starts,
         sizes,
         window_size as usize,
@@ -63,38 +55,34 @@ fn put_sheet(
         long,
         p,
         out,
-    )
+    );
+    put_excesses(excesses, q, out)
 }
 
-// The sheet of a set, or nothing, for any numbers and lists.
+// The sheet of a set, or nothing, for any numbers and lists; `fits` says whether the set fits its sides and its store.
 pub(crate) fn write(
     kind: FilterType,
     store: Store,
     lines: u32,
     window_size: u32,
     precision: u32,
+    fits: bool,
     wide: bool,
     short: &[i16],
     long: &[i32],
     starts: &[u32],
     sizes: &[u32],
+    excesses: &[i64],
     out: &mut [u8],
 ) -> Sheet
-    ensures answer { λ r. ⌜ r ≡ answerOf kind store (storedOf (setOf (layoutOf lines «window_size» (now (starts .entry)) (now (sizes .entry))) (lent wide (now (short .entry)) (now (long .entry)))) precision) (length (now (out .entry))) ⌝ }
-    ensures written { λ _. ⌜ now (out .exit) ≡ writtenOf kind store (storedOf (setOf (layoutOf lines «window_size» (now (starts .entry)) (now (sizes .entry))) (lent wide (now (short .entry)) (now (long .entry)))) precision) (now (out .entry)) ⌝ }
+    requires { ⌜ fits ≡ not (unfit (storedOf (setOf (layoutOf lines «window_size» (now starts) (now sizes)) (lent wide (now short) (now long))) precision (now excesses)) store) ⌝ }
+    ensures answer { λ r. ⌜ r ≡ answerOf kind store (storedOf (setOf (layoutOf lines «window_size» (now (starts .entry)) (now (sizes .entry))) (lent wide (now (short .entry)) (now (long .entry)))) precision (now (excesses .entry))) (length (now (out .entry))) ⌝ }
+    ensures written { λ _. ⌜ now (out .exit) ≡ writtenOf kind store (storedOf (setOf (layoutOf lines «window_size» (now (starts .entry)) (now (sizes .entry))) (lent wide (now (short .entry)) (now (long .entry)))) precision (now (excesses .entry))) (now (out .entry)) ⌝ }
 {
     if !sides_fit(lines, starts.len()) {
         return Sheet::Refused(Refusal::BadSide);
     }
-    if !stored_fits(
-        store,
-        lines,
-        window_size,
-        precision,
-        slot_count(wide, short, long),
-        starts,
-        sizes,
-    ) {
+    if !fits {
         return Sheet::Refused(Refusal::DoesNotFit);
     }
     let mut none = [0u8; 1];
@@ -109,6 +97,7 @@ pub(crate) fn write(
         long,
         starts,
         sizes,
+        excesses,
         &mut none,
     );
     if out.len() < n {
@@ -125,6 +114,7 @@ pub(crate) fn write(
         long,
         starts,
         sizes,
+        excesses,
         out,
     );
     Sheet::Written(n as u64)

@@ -10,16 +10,29 @@ use sheet::Sheet;
 // In the 16-bit store.
 pub(crate) fn sheet16(asked: Asked, window: u32, weights: &[f64], starts: &[u32], sizes: &[u32]) {
     let mut store = [0i16; 65536];
+    let mut excesses = [0i64; 8192];
     let mut text = [0u8; 524288];
     let side = asked.side;
-    let normalized = normalizer::normalize16(side, window, weights, starts, sizes, &mut store);
+    let normalized = normalizer::normalize16(
+        side,
+        window,
+        weights,
+        starts,
+        sizes,
+        &mut store,
+        &mut excesses,
+    );
     let Normalized::Done(precision) = normalized else {
         refused(refusal_of(normalized), asked);
         return;
     };
     let a: usize = 0;
     let n = weights.len();
+    let m = starts.len();
     if 65536 < n {
+        return limits::slots();
+    }
+    if 8192 < m {
         return limits::slots();
     }
     let filter = asked.filter;
@@ -32,6 +45,7 @@ pub(crate) fn sheet16(asked: Asked, window: u32, weights: &[f64], starts: &[u32]
         used,
         starts,
         sizes,
+        &excesses[a..m],
         &mut text,
     );
     show(asked, written, &text);
@@ -40,16 +54,29 @@ pub(crate) fn sheet16(asked: Asked, window: u32, weights: &[f64], starts: &[u32]
 // In the 32-bit store.
 pub(crate) fn sheet32(asked: Asked, window: u32, weights: &[f64], starts: &[u32], sizes: &[u32]) {
     let mut store = [0i32; 65536];
+    let mut excesses = [0i64; 8192];
     let mut text = [0u8; 524288];
     let side = asked.side;
-    let normalized = normalizer::normalize32(side, window, weights, starts, sizes, &mut store);
+    let normalized = normalizer::normalize32(
+        side,
+        window,
+        weights,
+        starts,
+        sizes,
+        &mut store,
+        &mut excesses,
+    );
     let Normalized::Done(precision) = normalized else {
         refused(refusal_of(normalized), asked);
         return;
     };
     let a: usize = 0;
     let n = weights.len();
+    let m = starts.len();
     if 65536 < n {
+        return limits::slots();
+    }
+    if 8192 < m {
         return limits::slots();
     }
     let filter = asked.filter;
@@ -62,6 +89,7 @@ pub(crate) fn sheet32(asked: Asked, window: u32, weights: &[f64], starts: &[u32]
         used,
         starts,
         sizes,
+        &excesses[a..m],
         &mut text,
     );
     show(asked, written, &text);

@@ -12,30 +12,27 @@ use lib.Seq.{ext-getD}
 use borrow.Author.Tests.{ltb-true, ltb-false}
 use Rattle.lists.specs.Tab.{tab, grid}
 use Rattle.lists.proofs.TabLaws.{length-tab, getD-tab, tab-getD, tab-ext}
-use Rattle.lists.proofs.BoolLaws.{or-left, or-right}
-use Rattle.windows.specs.Fit.{badSet, Fits}
-use Rattle.windows.specs.Set.{Stored, layoutOf, setOf, storedOf, windows, start, size, weight}
-use Rattle.windows.specs.Store.{largestPrecision, badPrecision}
-use Rattle.lists.proofs.RangeLaws.{InRange, not-outside}
-use Rattle.windows.proofs.Fits.{fits}
+use Rattle.windows.specs.Fit.{Fits}
+use Rattle.windows.specs.Set.{Stored, layoutOf, setOf, storedOf, windows, start, size, weight, excess, excessOf}
+use Rattle.windows.specs.Store.{largestPrecision}
+use Rattle.lists.proofs.RangeLaws.{InRange}
+use Rattle.excesses.proofs.SameExcess.{excess-ext}
+use Rattle.excesses.proofs.StoredLaws.{stored-fits, stored-precise, excesses-right}
 use Rattle.scan.specs.Number.{Inside}
 use Rattle.scan.specs.Forms.{RunGood}
 use Rattle.scan.proofs.RunText.{run-all}
 use Rattle.sheet_scan.specs.Language.{storeNamed, limitOf, Accepted, Blank}
 use Rattle.sheet_scan.specs.Lines.{Row, weightItem, windowLine}
-use Rattle.sheet_scan.specs.Rows.{noRow, startAt, sizeAt, slotAt, setOfRows}
+use Rattle.sheet_scan.specs.Rows.{noRow, startAt, sizeAt, slotAt, excessAt, excessesOf, setOfRows}
 use Rattle.sheet_scan.proofs.LineText.{Says}
 use Rattle.sheet_scan.proofs.SetLaws.{rowAt, rowsOf}
 
 module _ (wide : Bool) (bits : ℕ) (s : Stored) (a : Accepted wide bits s) where
-  abbrev badLayout : Bool
-  badLayout = badSet (s .set .layout) (length (s .set .weights))
-
   pub fit : Fits (s .set .layout) (length (s .set .weights))
-  fit = fits (s .set .layout) (length (s .set .weights)) (a .sides) (or-left badLayout (badPrecision (storeNamed bits) (s .precision)) (a .fits))
+  fit = stored-fits s (storeNamed bits) (a .fits) (a .sides)
 
   pub precise : InRange 4 (largestPrecision (storeNamed bits)) (s .precision)
-  precise = not-outside 4 (largestPrecision (storeNamed bits)) (s .precision) (or-right badLayout (badPrecision (storeNamed bits) (s .precision)) (a .fits))
+  precise = stored-precise s (storeNamed bits) (a .fits)
 
   pub rows-count : length (rowsOf s) ≡ windows (s .set .layout)
   rows-count = length-tab 0 (windows (s .set .layout)) (rowAt s)
@@ -112,6 +109,18 @@ module _ (wide : Bool) (bits : ℕ) (s : Stored) (a : Accepted wide bits s) wher
           let whole : n / s .set .layout .windowSize * s .set .layout .windowSize + n % s .set .layout .windowSize ≡ n = ap (λ (m : ℕ). m + n % s .set .layout .windowSize) (mul-comm (n / s .set .layout .windowSize) (s .set .layout .windowSize)) ∙ div-add-mod n (s .set .layout .windowSize) in
           cell blank (n / s .set .layout .windowSize) (n % s .set .layout .windowSize) row col ∙ ap (λ (m : ℕ). getD (s .set .weights) m (pos 0)) whole
 
+  -- the rows' excesses are the set's own
+  pub excesses-back : excessesOf (s .precision) (rowsOf s) ≡ s .excesses
+  excesses-back =
+      ap (λ (n : ℕ). tab 0 n (excessAt (s .precision) (rowsOf s))) rows-count
+      ∙ tab-ext 0 (windows (s .set .layout)) (excessAt (s .precision) (rowsOf s)) (excessOf s) (λ i l. rw zero-add (at i l)) ∙ sym (excesses-right s (storeNamed bits) (a .fits))
+    where
+      at : (i : ℕ) → i < windows (s .set .layout) → excessAt (s .precision) (rowsOf s) i ≡ excessOf s i
+      at i l =
+          let e : sizeAt (rowsOf s) i ≡ size (s .set .layout) i = ap {B = ℕ} (λ (r : Row). r .size) (row-is i l) in
+          ap (excess (s .precision) (slotAt (rowsOf s) i)) e
+          ∙ excess-ext (slotAt (rowsOf s) i) (weight (s .set) (pos 0) i) (s .precision) (size (s .set .layout) i) (λ k m. ap {B = ℤ} (λ (r : Row). getD (r .weights) k (pos 0)) (row-is i l) ∙ slot-in i k m)
+
   -- a set whose slots past the windows' sizes are 0 is the set of its rows
   pub set-back : Blank s → setOfRows (s .set .layout .lines) (s .set .layout .windowSize) (s .precision) (rowsOf s) ≡ s
-  set-back blank = λ i. storedOf (setOf (layoutOf (s .set .layout .lines) (s .set .layout .windowSize) (starts-back i) (sizes-back i)) (weights-back blank i)) (s .precision)
+  set-back blank = λ i. storedOf (setOf (layoutOf (s .set .layout .lines) (s .set .layout .windowSize) (starts-back i) (sizes-back i)) (weights-back blank i)) (s .precision) (excesses-back i)

@@ -12,7 +12,7 @@ use borrow.Author.Tests.{eq-eqb, ne-eqb}
 use Rattle.text.specs.Text.{joined, signed}
 use Rattle.windows.specs.Set.{Stored, windows}
 use Rattle.sheet.specs.Keys.{comma, newline}
-use Rattle.sheet.specs.Text.{itemText, itemAt, weightsText, openText, windowAt, windowsText}
+use Rattle.sheet.specs.Text.{itemText, itemAt, listText, openText, windowAt, windowsText}
 use Rattle.scan.specs.Form.{Form}
 use Rattle.scan.specs.Forms.{runText, RunGood}
 use Rattle.scan.proofs.RunText.{run-take, joined-run}
@@ -55,8 +55,8 @@ module _ (limit : ℕ) (ws : List ℤ) (from : ℕ) (l : List ℤ) (same : (j : 
       let last : end (suc m) ≡ 10 = rw (eq-eqb (suc m) (length l) e) in
       ap (λ (b : ℕ). joined (itemAt ws from) (suc m) ++ (b ∷ [])) (sym last) ∙ so-far m (omega arith) ∙ ap (λ (n : ℕ). runText F 0 (take n l)) e ∙ ap (runText F 0) (take-length l)
 
-  pub weights-text : 1 ≤ length l → weightsText ws from (length l) ++ newline ≡ runText (weightItem limit (length l)) 0 l
-  unfolding weightsText
+  pub weights-text : 1 ≤ length l → listText ws from (length l) ++ newline ≡ runText (weightItem limit (length l)) 0 l
+  unfolding listText
   weights-text some = all-of (length l) refl some
 
 -- the rows say what the set holds
@@ -75,10 +75,10 @@ module _ (lines limit : ℕ) (s : Stored) (rows : List Row) (h : Says s rows) wh
       let r = getD rows i noRow in
       let long : length (r .weights) ≡ r .size = h .long i l in
       let some = h .some i l in
-      let text : weightsText (s .set .weights) (i * s .set .layout .windowSize) (r .size) ++ newline ≡ runText (weightItem limit (r .size)) 0 (r .weights) =
-      subst (λ (n : ℕ). weightsText (s .set .weights) (i * s .set .layout .windowSize) n ++ newline ≡ runText (weightItem limit n) 0 (r .weights)) long
+      let text : listText (s .set .weights) (i * s .set .layout .windowSize) (r .size) ++ newline ≡ runText (weightItem limit (r .size)) 0 (r .weights) =
+      subst (λ (n : ℕ). listText (s .set .weights) (i * s .set .layout .windowSize) n ++ newline ≡ runText (weightItem limit n) 0 (r .weights)) long
       (weights-text limit (s .set .weights) (i * s .set .layout .windowSize) (r .weights) (λ k m. h .weights i k l (omega arith)) (omega arith)) in
-      rw (h .starts i l, h .sizes i l) (append-assoc (openText i (r .start) (r .size)) (weightsText (s .set .weights) (i * s .set .layout .windowSize) (r .size)) newline ∙ ap (λ (t : List ℕ). openText i (r .start) (r .size) ++ t) text)
+      rw (h .starts i l, h .sizes i l) (append-assoc (openText i (r .start) (r .size)) (listText (s .set .weights) (i * s .set .layout .windowSize) (r .size)) newline ∙ ap (λ (t : List ℕ). openText i (r .start) (r .size) ++ t) text)
 
   pub windows-text : windowsText (s .set .layout .starts) (s .set .layout .sizes) (s .set .layout .windowSize) (s .set .weights) ≡ runText (windowLine lines (s .set .layout .windowSize) limit) 0 rows
   unfolding windowsText

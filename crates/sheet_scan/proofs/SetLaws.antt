@@ -18,15 +18,17 @@ use Rattle.lists.proofs.TabLaws.{length-tab, getD-tab, tab-getD, tab-ext, grid-
 use Rattle.lists.proofs.AnyLaws.{none-any}
 use Rattle.lists.proofs.BoolLaws.{or-left, or-right}
 use Rattle.lists.specs.Ranges.{outside}
-use Rattle.windows.specs.Fit.{badCounts, badWindow, badAt}
-use Rattle.windows.specs.Set.{Stored, windows, start, size, weight}
+use Rattle.windows.specs.Fit.{badCounts, badWindow, badAt, badExcesses}
+use Rattle.windows.specs.Set.{Stored, windows, start, size, weight, excess, excessOf}
+use Rattle.excesses.proofs.SameExcess.{excess-ext}
+use Rattle.excesses.proofs.RightLaws.{right-excesses}
 use Rattle.windows.specs.Store.{largestPrecision}
 use Rattle.scan.specs.Number.{Inside}
 use Rattle.scan.specs.Forms.{RunGood}
 use Rattle.scan.proofs.RunText.{run-long, run-each, run-all}
 use Rattle.sheet_scan.specs.Language.{Taken, storeNamed, limitOf, Accepted, Blank}
 use Rattle.sheet_scan.specs.Lines.{Row, weightItem, windowLine, Between}
-use Rattle.sheet_scan.specs.Rows.{noRow, startAt, sizeAt, slotAt, setOfRows}
+use Rattle.sheet_scan.specs.Rows.{noRow, startAt, sizeAt, slotAt, excessAt, setOfRows}
 use Rattle.sheet_scan.proofs.LineText.{Says}
 
 -- numbers in their ranges pass the judges
@@ -83,11 +85,23 @@ module _ (lines window limit precision : ℕ) (rows : List Row) (good : RunGood 
   counts-fit l h =
       rw (length-tab 0 (length rows) (startAt rows), length-tab 0 (length rows) (sizeAt rows), length-tab 0 (length rows * window) (grid window (slotAt rows)), inside-range 1 32769 window l h, eq-eqb (length rows) (length rows) refl, eq-eqb (length rows * window) (length rows * window) refl)
 
+  -- each excess is its window's
+  excess-is : (i : ℕ) → i < length rows → excessOf s i ≡ getD (s .excesses) i (pos 0)
+  excess-is i l =
+      ap (excess precision (weight (s .set) (pos 0) i)) (size-is i l)
+      ∙ excess-ext (weight (s .set) (pos 0) i) (slotAt rows i) precision (sizeAt rows i) (λ k m. slot-is i k l (let high = each i l .1 in omega arith))
+      ∙ sym (getD-tab 0 (length rows) (excessAt precision rows) i (pos 0) l ∙ ap (excessAt precision rows) (zero-add i))
+
+  excesses-fit : badExcesses s ≡ false
+  excesses-fit =
+      let count = length-tab 0 (length rows) (startAt rows) in
+      right-excesses s (length-tab 0 (length rows) (excessAt precision rows) ∙ sym count) (λ i l. excess-is i (omega arith))
+
   pub rows-accepted : (wide : Bool) (bits : ℕ) → Taken wide bits → limit ≡ limitOf bits → Between 1 8192 lines → Between 1 8192 (length rows) → Between 1 32769 window → Between 4 (largestPrecision (storeNamed bits)) precision → Accepted wide bits s
   rows-accepted wide bits is-store e-limit in-lines in-outs in-window in-precision = record {
     taken = is-store;
     sides = rw (length-tab 0 (length rows) (startAt rows), inside-range 1 8192 lines (in-lines .0) (in-lines .1), inside-range 1 8192 (length rows) (in-outs .0) (in-outs .1));
-    fits = rw (counts-fit (in-window .0) (in-window .1), all-fit, inside-range 4 (largestPrecision (storeNamed bits)) precision (in-precision .0) (in-precision .1));
+    fits = rw (counts-fit (in-window .0) (in-window .1), all-fit, inside-range 4 (largestPrecision (storeNamed bits)) precision (in-precision .0) (in-precision .1)) excesses-fit;
     inside = λ i k l m.
         let count = length-tab 0 (length rows) (startAt rows) in
         let l2 : i < length rows = omega arith in

@@ -1,4 +1,4 @@
--- A whole sheet, from its three parts: what is found and where it stops; at most one sheet at a place. Cited by `scan_rest` and by the laws of the readers. Assumes nothing.
+-- A whole sheet, from its parts: what is found and where it stops; at most one sheet at a place. Cited by `scan_rest` and by the laws of the readers. Assumes nothing.
 use mathlib.Core.Path.{_≡_, refl, sym, ap, _∙_, subst}
 use mathlib.Core.Bool.{Bool, true, false, cond}
 use mathlib.Core.List.{List, [], _∷_, _++_, append-assoc}
@@ -12,20 +12,21 @@ use lib.ListN.{length, drop}
 use Rattle.lists.proofs.TabLaws.{length-tab}
 use Rattle.windows.specs.Set.{Stored, windows}
 use Rattle.windows.specs.Store.{store16, store32, weightBits}
-use Rattle.sheet.specs.Text.{kindText, sidesText, storeText, headText, windowsText, sheetText}
+use Rattle.sheet.specs.Text.{kindText, sidesText, storeText, headText, windowsText, excessText, sheetText}
 use Rattle.scan.specs.Form.{Form, Found, Stopped, Apart}
-use Rattle.scan.specs.Forms.{andThen, run, runText, RunGood}
+use Rattle.scan.specs.Forms.{fixed, andThen, run, runText, RunGood}
 use Rattle.scan.proofs.FormLaws.{found-then, stopped-first, stopped-then, stopped-same, apart-then, apart-run, run-of}
+use Rattle.scan.proofs.TailLaws.{tail-found, tail-no-first, tail-other, apart-tail}
 use Rattle.scan.proofs.RunText.{run-long}
 use Rattle.sheet_scan.specs.declared.Sizes.{Sizes}
 use Rattle.sheet_scan.specs.declared.StoreLines.{StoreLines}
 use Rattle.sheet_scan.specs.Language.{Taken, storeNamed, limitOf, Accepted, Blank, Whole, sheets}
 use Rattle.sheet_scan.specs.Lines.{Row, sizeLines, storeLines, windowLine}
-use Rattle.sheet_scan.specs.Whole.{linesOf, restLines}
-use Rattle.sheet_scan.specs.Rows.{startAt, setOfRows}
+use Rattle.sheet_scan.specs.Whole.{linesOf, excessLine, bodyLines, restLines}
+use Rattle.sheet_scan.specs.Rows.{startAt, excessesOf, setOfRows}
 use Rattle.sheet_scan.proofs.LineText.{Says, windows-text}
 use Rattle.sheet_scan.proofs.SetLaws.{rows-say, rows-blank, rows-accepted, rowsOf}
-use Rattle.sheet_scan.proofs.BackLaws.{fit, precise, set-says, set-good, set-back}
+use Rattle.sheet_scan.proofs.BackLaws.{fit, precise, set-says, set-good, excesses-back, set-back}
 use Rattle.sheet_scan.proofs.HeadLaws.{apart-sizes}
 use Rattle.sheet_scan.proofs.StoreLaws.{apart-lines, most-least}
 use Rattle.sheet_scan.proofs.OpenLaws.{apart-window, window-one}
@@ -42,18 +43,19 @@ named-bits wide bits (inr t) = rw (t .1)
 abbrev pub wholeOf : Sizes → StoreLines → List Row → Whole
 wholeOf v w rows = record { kind = v .kind; bits = w .bits; set = setOfRows (v .lines) (v .«window_size») (w .precision) rows }
 
-regroup : (k s t r : List ℕ) → k ++ s ++ t ++ r ≡ k ++ s ++ (t ++ r)
-regroup k s t r = simp append-assoc
+regroup : (k s t r x : List ℕ) → k ++ s ++ t ++ r ++ x ≡ k ++ s ++ (t ++ (r ++ x))
+regroup k s t r x = simp append-assoc
 
 -- a set's text, given its rows
-text-of : (w : Whole) (limit : ℕ) (rows : List Row) → weightBits (storeNamed (w .bits)) ≡ w .bits → Says (w .set) rows → sheetText (w .kind) (storeNamed (w .bits)) (w .set) ≡ kindText (w .kind) ++ sidesText (w .set .set .layout .lines) (windows (w .set .set .layout)) (w .set .set .layout .windowSize) ++ (storeText (w .bits) (w .set .precision) ++ runText (windowLine (w .set .set .layout .lines) (w .set .set .layout .windowSize) limit) 0 rows)
+text-of : (w : Whole) (limit : ℕ) (rows : List Row) → weightBits (storeNamed (w .bits)) ≡ w .bits → Says (w .set) rows → sheetText (w .kind) (storeNamed (w .bits)) (w .set) ≡ kindText (w .kind) ++ sidesText (w .set .set .layout .lines) (windows (w .set .set .layout)) (w .set .set .layout .windowSize) ++ (storeText (w .bits) (w .set .precision) ++ (runText (windowLine (w .set .set .layout .lines) (w .set .set .layout .windowSize) limit) 0 rows ++ excessText (w .set .excesses)))
 unfolding sheetText headText
 text-of w limit rows e says =
     let k = kindText (w .kind) in
     let s = sidesText (w .set .set .layout .lines) (windows (w .set .set .layout)) (w .set .set .layout .windowSize) in
     let t = storeText (w .bits) (w .set .precision) in
-    ap (λ (n : ℕ). k ++ s ++ storeText n (w .set .precision) ++ windowsText (w .set .set .layout .starts) (w .set .set .layout .sizes) (w .set .set .layout .windowSize) (w .set .set .weights)) e
-    ∙ ap (λ (r : List ℕ). k ++ s ++ t ++ r) (windows-text (w .set .set .layout .lines) limit (w .set) rows says) ∙ regroup k s t (runText (windowLine (w .set .set .layout .lines) (w .set .set .layout .windowSize) limit) 0 rows)
+    let x = excessText (w .set .excesses) in
+    ap (λ (n : ℕ). k ++ s ++ storeText n (w .set .precision) ++ windowsText (w .set .set .layout .starts) (w .set .set .layout .sizes) (w .set .set .layout .windowSize) (w .set .set .weights) ++ x) e
+    ∙ ap (λ (r : List ℕ). k ++ s ++ t ++ r ++ x) (windows-text (w .set .set .layout .lines) limit (w .set) rows says) ∙ regroup k s t (runText (windowLine (w .set .set .layout .lines) (w .set .set .layout .windowSize) limit) 0 rows) x
 
 module _ (wide : Bool) (v : Sizes) (w : StoreLines) (rows : List Row) (good : parts wide .Good (v, (w, rows))) where
   long : length rows ≡ v .windows
@@ -74,7 +76,7 @@ module _ (wide : Bool) (v : Sizes) (w : StoreLines) (rows : List Row) (good : pa
   pub whole-text : sheets wide .text (wholeOf v w rows) ≡ parts wide .text (v, (w, rows))
   whole-text =
       text-of (wholeOf v w rows) (limitOf (w .bits)) rows (named-bits wide (w .bits) (good .1 .0 .0)) (rows-say (v .lines) (v .«window_size») (limitOf (w .bits)) (w .precision) rows rows-good)
-      ∙ ap (λ (n : ℕ). kindText (v .kind) ++ sidesText (v .lines) n (v .«window_size») ++ (storeText (w .bits) (w .precision) ++ runText (windowLine (v .lines) (v .«window_size») (limitOf (w .bits))) 0 rows)) (sym outs-is)
+      ∙ ap (λ (n : ℕ). kindText (v .kind) ++ sidesText (v .lines) n (v .«window_size») ++ (storeText (w .bits) (w .precision) ++ (runText (windowLine (v .lines) (v .«window_size») (limitOf (w .bits))) 0 rows ++ excessLine (w .precision) rows))) (sym outs-is)
 
 -- the parts of a sheet
 abbrev pub sizesOf : Whole → Sizes
@@ -90,7 +92,9 @@ parts-good wide x a =
     (((f .some-line, f .few-lines), (f .some-window, f .few-windows), (f .some-slot, f .few-slots)), ((a .taken, (p .least, p .most)), set-good wide (x .bits) (x .set) a))
 
 pub parts-text : (wide : Bool) (x : Whole) → Accepted wide (x .bits) (x .set) → parts wide .text (sizesOf x, (storeOf x, rowsOf (x .set))) ≡ sheets wide .text x
-parts-text wide x a = sym (text-of x (limitOf (x .bits)) (rowsOf (x .set)) (named-bits wide (x .bits) (a .taken)) (set-says wide (x .bits) (x .set) a))
+parts-text wide x a =
+    ap (λ (es : List ℤ). sizeLines .text (sizesOf x) ++ (storeLines wide .text (storeOf x) ++ (linesOf (sizesOf x) (storeOf x) .text (rowsOf (x .set)) ++ excessText es))) (excesses-back wide (x .bits) (x .set) a)
+    ∙ sym (text-of x (limitOf (x .bits)) (rowsOf (x .set)) (named-bits wide (x .bits) (a .taken)) (set-says wide (x .bits) (x .set) a))
 
 there : (wide : Bool) (p : (v : Sizes) × ((w : StoreLines) × List Row)) → parts wide .Good p → (x : Whole) × sheets wide .Good x × (sheets wide .text x ≡ parts wide .text p)
 there wide p good = (wholeOf (p .0) (p .1 .0) (p .1 .1), whole-good wide (p .0) (p .1 .0) (p .1 .1) good, whole-text wide (p .0) (p .1 .0) (p .1 .1) good)
@@ -131,18 +135,22 @@ module _ (wide : Bool) {text : List ℕ} {at : ℕ} where
   sheet-no-sizes s = whole (stopped-first sizeLines (restLines wide) (some-rest wide) s)
 
   pub rest-no-store : (v : Sizes) {stop : ℕ} → sizeLines .Good v → Stopped (storeLines wide) text at stop → Stopped (restLines wide v) text at stop
-  rest-no-store v good s = stopped-first (storeLines wide) (linesOf v) (λ w good-w. some-rows v w good) s
+  rest-no-store v good s = stopped-first (storeLines wide) (bodyLines v) (λ w good-w. some-rows v w good) s
 
-  pub rest-no-window : (v : Sizes) {w : StoreLines} {mid stop : ℕ} → Found (storeLines wide) text at w mid → Stopped (linesOf v w) text mid stop → Stopped (restLines wide v) text at stop
-  rest-no-window v g s = stopped-then (storeLines wide) (linesOf v) (apart-lines wide) g s
+  module _ (v : Sizes) {w : StoreLines} {mid : ℕ} (g : Found (storeLines wide) text at w mid) where
+    pub rest-no-window : {stop : ℕ} → Stopped (linesOf v w) text mid stop → Stopped (restLines wide v) text at stop
+    rest-no-window s = stopped-then (storeLines wide) (bodyLines v) (apart-lines wide) g (tail-no-first (linesOf v w) (excessLine (w .precision)) s)
+
+    pub rest-no-excess : {rows : List Row} {next stop : ℕ} → v .lines ≤ 8192 → Found (linesOf v w) text mid rows next → Stopped (fixed (excessLine (w .precision) rows)) text next stop → Stopped (restLines wide v) text at stop
+    rest-no-excess l h s = stopped-then (storeLines wide) (bodyLines v) (apart-lines wide) g (tail-other (linesOf v w) (excessLine (w .precision)) (apart-rows v l w) h s)
 
   module _ {a : ℕ} {v : Sizes} (f : Found sizeLines text at v a) where
     pub sheet-no-rest : {stop : ℕ} → Stopped (restLines wide v) text a stop → Stopped (sheets wide) text at stop
     sheet-no-rest s = whole (stopped-then sizeLines (restLines wide) apart-sizes f s)
 
-    pub sheet-found : {b next : ℕ} {w : StoreLines} {rows : List Row} → Found (storeLines wide) text a w b → Found (linesOf v w) text b rows next → Found (sheets wide) text at (wholeOf v w rows) next
-    sheet-found {next = next} {w = w} {rows = rows} g h =
-        let all = found-then sizeLines (restLines wide) f (found-then (storeLines wide) (linesOf v) g h) in
+    pub sheet-found : {b c next : ℕ} {w : StoreLines} {rows : List Row} → Found (storeLines wide) text a w b → Found (linesOf v w) text b rows c → Found (fixed (excessLine (w .precision) rows)) text c tt next → Found (sheets wide) text at (wholeOf v w rows) next
+    sheet-found {next = next} {w = w} {rows = rows} g h x =
+        let all = found-then sizeLines (restLines wide) f (found-then (storeLines wide) (bodyLines v) g (tail-found (linesOf v w) (excessLine (w .precision)) h x)) in
         let same = sym (whole-text wide v w rows (all .good)) in
         record {
           good = whole-good wide v w rows (all .good);
@@ -164,4 +172,4 @@ apart-sheets wide x y good-x good-y t u e =
     whole-back x good = ap {B = Whole} (λ (s : Stored). record { kind = x .kind; bits = x .bits; set = s }) (set-back wide (x .bits) (x .set) (good .0) (good .1))
 
     apart-parts : (p q : (v : Sizes) × ((w : StoreLines) × List Row)) → parts wide .Good p → parts wide .Good q → (t u : List ℕ) → parts wide .text p ++ t ≡ parts wide .text q ++ u → p ≡ q
-    apart-parts = apart-then sizeLines (restLines wide) apart-sizes (λ v good. apart-then (storeLines wide) (linesOf v) (apart-lines wide) (λ w good-w. apart-rows v (good .0 .1) w))
+    apart-parts = apart-then sizeLines (restLines wide) apart-sizes (λ v good. apart-then (storeLines wide) (bodyLines v) (apart-lines wide) (λ w good-w. apart-tail (linesOf v w) (excessLine (w .precision)) (apart-rows v (good .0 .1) w)))

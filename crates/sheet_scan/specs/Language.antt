@@ -30,11 +30,11 @@ Taken wide bits = (bits ≡ 16) ⊎ ((wide ≡ true) × (bits ≡ 32))
 abbrev pub limitOf : ℕ → ℕ
 limitOf bits = 2 ^ storeNamed bits .limit
 
--- a set that passes the judges, with the precision of its store and its weights in use inside the store's type
+-- a set that passes the judge, with the precision of its store and right excesses, and its weights in use inside the store's type
 pub record Accepted (wide : Bool) (bits : ℕ) (s : Stored) : Type 0 where
   pub taken : Taken wide bits
   pub sides : badSides (s .set .layout .lines) (windows (s .set .layout)) ≡ false
-  pub fits : badStored (s .set .layout) (storeNamed bits) (length (s .set .weights)) (s .precision) ≡ false
+  pub fits : badStored s (storeNamed bits) ≡ false
   pub inside : (i k : ℕ) → i < windows (s .set .layout) → k < size (s .set .layout) i → Inside (limitOf bits) (weight (s .set) (pos 0) i k)
 
 -- the slots past each window's size are 0

@@ -10,6 +10,7 @@ pub use heads::scan_sizes;
 pub use rest::limit_of;
 pub use rest::scan_rest;
 pub use rows::item_end;
+pub use rows::place_stop;
 pub use rows::scan_weights;
 pub use rows::take_open;
 

@@ -28,7 +28,7 @@ fn signed_stop(s: Signed) -> usize
     }
 }
 
-fn place_stop(p: Place) -> usize
+pub fn place_stop(p: Place) -> usize
     ensures answer { λ r. ⌜ r ≡ passPlace p ⌝ }
 {
     match p {

@@ -19,7 +19,7 @@ use Rattle.vertical.specs.declared.PassedF32.the-variants.{Done as DoneF
 use Rattle.vertical.specs.Frame.{frame, output, columns}
 use Rattle.vertical.specs.U16.{valueAt, passedU16, writtenU16}
 use Rattle.vertical.specs.F32.{valueF32, infinities, badLine, badSamples, passedF32, writtenF32}
-use Rattle.vertical.proofs.Answers.{reshaped, tests-u16, tests-f32}
+use Rattle.vertical.proofs.Answers.{same-frame, reshaped, tests-u16, tests-f32}
 
 pub some-column : (windows count k : ℕ) → k < windows * count → 0 < count
 some-column windows zero k h = absurd (omega (arith, mul-zero windows))
@@ -46,7 +46,7 @@ module _ (s : Stored) (src : List ℕ) (row : ℕ) (whole : List ℕ) (done : pa
   unfolding passedU16
   range-done-u16 =
       let t = tests-u16 s (length src) row 0 row (length whole) done in
-      rw (t .size, reshaped (s .set) (length src) row 0 row (length whole) (t .shape) first count (length list) fit rooms, t .precision)
+      rw (t .size, t .stored, same-frame (s .set) (length src) row 0 row (length whole) first count (length list) fit rooms (t .area))
 
   -- where the whole frame is not refused, a range of columns is not, and its output is those columns of the whole
   pub columns-cut-u16 : (passedU16 s (length src) row first count (length list) ≡ Done) × (writtenU16 s src row first count list ≡ columns 0 row (windows (s .set .layout)) first count (writtenU16 s src row 0 row whole))

@@ -1,9 +1,11 @@
 pub mod Answers
+pub mod Judges
 pub mod Columns
 pub mod F32Infinite
 pub mod F32Counts
 pub mod Turns
 pub mod Values
+pub mod RowTurns
 pub mod ColumnLaws
 pub mod ReadBack
 pub mod Table

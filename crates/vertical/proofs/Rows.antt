@@ -10,12 +10,13 @@ use Rattle.lists.specs.Ladder.{Exactly, given, Due}
 use Rattle.lists.proofs.LadderLaws.{exactly-due}
 use Rattle.refusal.specs.declared.Refusal.the-variants.{BadSide, DoesNotFit, SampleOutside}
 use Rattle.windows.specs.Set.{Set, Stored, windows}
-use Rattle.windows.specs.Store.{store32, badPrecision}
+use Rattle.windows.specs.Store.{store32}
+use Rattle.windows.specs.Fit.{badStored}
 use Rattle.vertical.specs.declared.Passed.the-variants.{Done, Refused}
 use Rattle.vertical.specs.declared.PassedF32.the-variants.{Done as DoneF32, Refused as RefusedF32}
 use Rattle.vertical.specs.Passed.{numberOf}
 use Rattle.vertical.specs.PassedF32.{numberOf as numberOfF32}
-use Rattle.vertical.specs.Frame.{frame, output, badSize, badShape}
+use Rattle.vertical.specs.Frame.{frame, output, badSize, badArea, badShape}
 use Rattle.vertical.specs.U16.{passedU16}
 use Rattle.vertical.specs.F32.{valueF32, infinities, badWeights, badSamples, passedF32}
 
@@ -26,18 +27,18 @@ numbered false false true = refl
 numbered false false false = refl
 
 module _ (s : Stored) (samples row first count room : ℕ) where
-  -- the tests in the order of judging, each with its number: sides and row; set, frame, columns and precision
+  -- the tests in the order of judging, each with its number: sides and row; the stored set, frame and columns
   abbrev pub rowsU16 : List (Bool × ℕ)
   rowsU16 =
       (badSize (s .set .layout .lines) (windows (s .set .layout)) row, 1)
-      ∷ (badShape (s .set .layout) (length (s .set .weights)) samples row first count room || badPrecision store32 (s .precision), 10)
+      ∷ (badStored s store32 || badArea (s .set .layout .lines) (windows (s .set .layout)) samples row first count room, 10)
       ∷ []
 
   is : numberOf (passedU16 s samples row first count room) ≡ given rowsU16
   unfolding passedU16
   is =
       numbered (badSize (s .set .layout .lines) (windows (s .set .layout)) row)
-      (badShape (s .set .layout) (length (s .set .weights)) samples row first count room) (badPrecision store32 (s .precision))
+      (badStored s store32) (badArea (s .set .layout .lines) (windows (s .set .layout)) samples row first count room)
 
   pub passed-u16-exactly : (n : ℕ) → Exactly (numberOf (passedU16 s samples row first count room) ≡ n) (Due n rowsU16)
   passed-u16-exactly n = rw is (exactly-due n rowsU16 refl)

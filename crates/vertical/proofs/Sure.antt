@@ -1,10 +1,12 @@
--- The contracts of `size_fits`, `shape_fits`, `number` and `infinite` decide their answers. Assumes nothing.
+-- The contracts of `size_fits`, `shape_fits`, `frame_fits`, `number` and `infinite` decide their answers. Assumes nothing.
 use mathlib.Core.Path.{_∙_, sym}
 use Rattle.lists.proofs.Sure.{DecidesResult}
 use Rattle.vertical.proofs.size_fits.Kinds as size
 use Rattle.vertical.proofs.size_fits.Reads as size-reads
 use Rattle.vertical.proofs.shape_fits.Kinds as shape
 use Rattle.vertical.proofs.shape_fits.Reads as shape-reads
+use Rattle.vertical.proofs.frame_fits.Kinds as frame
+use Rattle.vertical.proofs.frame_fits.Reads as frame-reads
 use Rattle.vertical.proofs.Passed.number.Kinds as number
 use Rattle.vertical.proofs.Passed.number.Reads as number-reads
 use Rattle.vertical.proofs.PassedF32.number.Kinds as number-f32
@@ -17,6 +19,9 @@ size-fits-decides κs a x y s t p q = p ∙ sym q
 
 pub shape-fits-decides : DecidesResult shape.ps shape.r shape-reads.Post
 shape-fits-decides κs a x y s t p q = p ∙ sym q
+
+pub frame-fits-decides : DecidesResult frame.ps frame.r frame-reads.Post
+frame-fits-decides κs a x y s t p q = p ∙ sym q
 
 pub number-decides : DecidesResult number.ps number.r number-reads.Post
 number-decides κs a x y s t p q = p ∙ sym q

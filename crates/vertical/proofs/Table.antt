@@ -2,15 +2,18 @@
 -- Rows restated by the promises.
 -- Assumes nothing.
 use mathlib.Core.Path.{_≡_, refl}
+use mathlib.Core.Bool.{false}
 use mathlib.Core.List.{List, [], _∷_}
 use Prim.Native.Nat.{ℕ}
 use lib.Ieee.{Float, nan, binary32, binary64, add, mul, round, ofBits, toBits, sum as sumOf}
 use lib.ListN.{length}
 use Rattle.integers.specs.Sums.{sum, shifted, clipped}
 use Rattle.numbers.specs.Whole.{narrow}
-use Rattle.windows.specs.Set.{layoutOf, setOf}
+use Rattle.windows.specs.Set.{layoutOf, setOf, excess}
+use Rattle.windows.specs.Store.{store16, store32}
+use Rattle.windows.specs.Fit.{unfit}
 use Rattle.vertical.specs.Frame.{frame}
-use Rattle.vertical.specs.Example.{pass4, sharp, even}
+use Rattle.vertical.specs.Example.{set4, pass4, sharp, even}
 use Rattle.vertical.specs.F32.{valueF32}
 
 pub rows-10-to-12 :
@@ -19,6 +22,11 @@ pub rows-10-to-12 :
     × ((pass4 even (1 ∷ 0 ∷ []) ≡ 1) × (pass4 even (0 ∷ 1 ∷ []) ≡ 1) × (pass4 even (1 ∷ 1 ∷ []) ≡ 1))
 unfolding sum shifted clipped
 rows-10-to-12 = (refl, (refl, refl), (refl, refl, refl))
+
+-- both windows make stored sets that no integer pass refuses
+pub examples-fit : (unfit (set4 sharp 3) store16 ≡ false) × (unfit (set4 sharp 3) store32 ≡ false) × (unfit (set4 even 2) store16 ≡ false) × (unfit (set4 even 2) store32 ≡ false)
+unfolding sum excess
+examples-fit = (refl, refl, refl, refl)
 
 -- ---- the f32 pass, as bits: ties of the narrowing to the even one (row 14, through a pass), and the order of the sum
 

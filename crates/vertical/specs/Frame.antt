@@ -38,6 +38,10 @@ badFrame samples lines row = not (eqb samples (lines * row))
 abbrev pub badRange : ℕ → ℕ → ℕ → ℕ → ℕ → Bool
 badRange row first count windows room = ltb row (first + count) || not (eqb room (windows * count))
 
--- No. 10 of both passes: the set, the frame, or the columns
+-- No. 10 of a frame and of the columns asked of it
+abbrev pub badArea : ℕ → ℕ → ℕ → ℕ → ℕ → ℕ → ℕ → Bool
+badArea lines windows samples row first count room = badFrame samples lines row || badRange row first count windows room
+
+-- No. 10 of the f32 pass: the set, or the frame and the columns
 abbrev pub badShape : Layout → ℕ → ℕ → ℕ → ℕ → ℕ → ℕ → Bool
-badShape l slots samples row first count room = (badSet l slots || badFrame samples (l .lines) row) || badRange row first count (windows l) room
+badShape l slots samples row first count room = badSet l slots || badArea (l .lines) (windows l) samples row first count room

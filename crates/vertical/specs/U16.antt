@@ -9,11 +9,12 @@ use lib.ListN.{length}
 use Rattle.refusal.specs.declared.Refusal.the-variants.{BadSide, DoesNotFit}
 use Rattle.integers.specs.Sums.{value}
 use Rattle.windows.specs.Set.{Stored, windows, size, weight, sample, distanceOf}
-use Rattle.windows.specs.Store.{store32, badPrecision}
+use Rattle.windows.specs.Store.{store32}
+use Rattle.windows.specs.Fit.{badStored}
 use Rattle.vertical.specs.declared.Passed.{Passed}
 use Rattle.vertical.specs.declared.Passed.the-variants.{Done, Refused}
 use Rattle.vertical.specs.Passed.{after}
-use Rattle.vertical.specs.Frame.{frame, output, badSize, badShape}
+use Rattle.vertical.specs.Frame.{frame, output, badSize, badArea}
 
 -- window i at column j: the sum of weight x sample plus 2^(p-1), divided by 2^p rounding down, and clipped to 0 .. M
 abbrev pub valueAt : ℕ → Stored → (ℕ → ℕ → ℕ) → ℕ → ℕ → ℕ
@@ -27,8 +28,8 @@ keepsFlat M s i = ltb (2 * M * distanceOf s i) (2 ^ s .precision)
 unfoldable pub passedU16 : Stored → ℕ → ℕ → ℕ → ℕ → ℕ → Passed
 passedU16 s samples row first count room =
     cond (badSize (s .set .layout .lines) (windows (s .set .layout)) row) (Refused BadSide)
-    (cond (badShape (s .set .layout) (length (s .set .weights)) samples row first count room) (Refused DoesNotFit)
-    (cond (badPrecision store32 (s .precision)) (Refused DoesNotFit)
+    (cond (badStored s store32) (Refused DoesNotFit)
+    (cond (badArea (s .set .layout .lines) (windows (s .set .layout)) samples row first count room) (Refused DoesNotFit)
     Done))
 
 -- what `old` holds after it

@@ -1,6 +1,6 @@
-// `vertical`: what the two vertical passes answer and write. The definitions that `vertical_u16` and `vertical_f32` are proved against, the judge of sizes and
-// shape that both ask (`badSize` is No. 1 of document 01, `badShape` the No. 10 that they share), and the promise that a range of columns gives those
-// columns of the whole frame.
+// `vertical`: what the vertical passes answer and write. The definitions that `vertical_u16` and `vertical_f32` are proved against, the judges of sizes, frame
+// and columns that all passes ask (`badSize` is No. 1 of document 01, `badArea` the No. 10 that they share), and the promise that a range of columns gives
+// those columns of the whole frame.
 mod answer;
 
 use refusal::Refusal;
@@ -10,7 +10,7 @@ use windows::sides_fit;
 ghost use mathlib.Core.Path.{_≡_};
 ghost use mathlib.Core.Bool.{not};
 ghost use Rattle.windows.specs.Set.{layoutOf};
-ghost use Rattle.vertical.specs.Frame.{badSize, badRange, badShape};
+ghost use Rattle.vertical.specs.Frame.{badSize, badRange, badArea, badShape};
 
 // A frame of samples, line after line, and the columns of it that are asked for.
 pub struct Frame {
@@ -63,10 +63,17 @@ pub fn shape_fits(
     if !set_fits(frame.lines, window_size, slots, starts, sizes) {
         return false;
     }
+    frame_fits(frame, samples, starts.len(), room)
+}
+
+// Whether the frame and the columns fit their lists, for any numbers.
+pub fn frame_fits(frame: Frame, samples: usize, windows: usize, room: usize) -> bool
+    ensures answer { λ r. ⌜ r ≡ not (badArea (frame .lines) windows samples (frame .row) (frame .first) (frame .count) room) ⌝ }
+{
     if !fills(samples, frame.lines as usize, frame.row) {
         return false;
     }
-    columns_fit(frame.row, frame.first, frame.count, starts.len(), room)
+    columns_fit(frame.row, frame.first, frame.count, windows, room)
 }
 
 // Whether the columns are in the row, and the output has room for them exactly. Their end is taken in 64 bits, where it cannot wrap.

@@ -7,12 +7,14 @@ use lib.ListN.{length}
 use Rattle.lists.specs.Tab.{tab, grid}
 use Rattle.refusal.specs.declared.Refusal.the-variants.{BadSide, DoesNotFit}
 use Rattle.windows.specs.Set.{Stored, windows}
-use Rattle.windows.specs.Store.{store32, badPrecision}
+use Rattle.windows.specs.Store.{store32}
+use Rattle.windows.specs.Fit.{badStored}
 use Rattle.vertical.specs.declared.Passed.{Passed}
 use Rattle.vertical.specs.declared.Passed.the-variants.{Done, Refused}
-use Rattle.vertical.specs.Frame.{badSize, badShape}
+use Rattle.vertical.specs.Frame.{badSize, badArea}
 use Rattle.vertical.specs.U16.{passedU16, writtenU16}
 use Rattle.vertical.specs.Column.{windowValue}
+use Rattle.vertical.proofs.Answers.{Tests}
 use Rattle.vertical.proofs.Values.{output-of-cells}
 
 module _ (s : Stored) (src : List ℕ) (row first count : ℕ) (old : List ℕ) where
@@ -24,14 +26,15 @@ module _ (s : Stored) (src : List ℕ) (row first count : ℕ) (old : List ℕ) 
   unfolding passedU16 writtenU16
   bad-size size = (rw size, rw size)
 
-  pub bad-shape : badSize (s .set .layout .lines) (windows (s .set .layout)) row ≡ false → badShape (s .set .layout) (length (s .set .weights)) (length src) row first count (length old) ≡ true → Meets (Refused DoesNotFit) old
-  unfolding passedU16 writtenU16
-  bad-shape size shape = (rw (size, shape), rw (size, shape))
+  module _ (size : badSize (s .set .layout .lines) (windows (s .set .layout)) row ≡ false) where
+    pub bad-stored : badStored s store32 ≡ true → Meets (Refused DoesNotFit) old
+    unfolding passedU16 writtenU16
+    bad-stored stored = (rw (size, stored), rw (size, stored))
 
-  pub bad-precision : badSize (s .set .layout .lines) (windows (s .set .layout)) row ≡ false → badShape (s .set .layout) (length (s .set .weights)) (length src) row first count (length old) ≡ false → badPrecision store32 (s .precision) ≡ true → Meets (Refused DoesNotFit) old
-  unfolding passedU16 writtenU16
-  bad-precision size shape precision = (rw (size, shape, precision), rw (size, shape, precision))
+    pub bad-area : badStored s store32 ≡ false → badArea (s .set .layout .lines) (windows (s .set .layout)) (length src) row first count (length old) ≡ true → Meets (Refused DoesNotFit) old
+    unfolding passedU16 writtenU16
+    bad-area stored area = (rw (size, stored, area), rw (size, stored, area))
 
-  pub done : badSize (s .set .layout .lines) (windows (s .set .layout)) row ≡ false → badShape (s .set .layout) (length (s .set .weights)) (length src) row first count (length old) ≡ false → badPrecision store32 (s .precision) ≡ false → (new : List ℕ) → new ≡ tab 0 (windows (s .set .layout) * count) (grid count (windowValue 65535 src row first (s .set .layout .starts) (s .set .layout .sizes) (s .set .layout .windowSize) (s .set .weights) (s .precision))) → Meets Done new
+  pub done : Tests store32 s (length src) row first count (length old) → (new : List ℕ) → new ≡ tab 0 (windows (s .set .layout) * count) (grid count (windowValue 65535 src row first (s .set .layout .starts) (s .set .layout .sizes) (s .set .layout .windowSize) (s .set .weights) (s .precision))) → Meets Done new
   unfolding passedU16 writtenU16
-  done size shape precision new cells = (rw (size, shape, precision), rw (size, shape, precision) (output-of-cells 65535 s src row first count cells))
+  done t new cells = (rw (t .size, t .stored, t .area), rw (t .size, t .stored, t .area) (output-of-cells 65535 s src row first count cells))

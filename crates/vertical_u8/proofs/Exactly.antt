@@ -4,15 +4,15 @@ use mathlib.Core.Path.{_≡_, refl}
 use mathlib.Core.Bool.{Bool, true, false, cond, _||_}
 use mathlib.Core.List.{List, [], _∷_}
 use Prim.Native.Nat.{ℕ}
-use lib.ListN.{length}
 use Rattle.lists.specs.Ladder.{Exactly, given, Due}
 use Rattle.lists.proofs.LadderLaws.{exactly-due}
 use Rattle.refusal.specs.declared.Refusal.the-variants.{BadSide, DoesNotFit, WeightOutside}
 use Rattle.windows.specs.Set.{Stored, windows}
-use Rattle.windows.specs.Store.{store16, badPrecision}
+use Rattle.windows.specs.Store.{store16}
+use Rattle.windows.specs.Fit.{badStored}
 use Rattle.vertical.specs.declared.Passed.the-variants.{Done, Refused}
 use Rattle.vertical.specs.Passed.{numberOf}
-use Rattle.vertical.specs.Frame.{badSize, badShape}
+use Rattle.vertical.specs.Frame.{badSize, badArea}
 use Rattle.vertical_u8.specs.U8.{heavyWindows, passedU8}
 
 numbered : (a b c d : Bool) → numberOf (cond a (Refused BadSide) (cond b (Refused DoesNotFit) (cond c (Refused DoesNotFit) (cond d (Refused WeightOutside) Done)))) ≡ cond a 1 (cond (b || c) 10 (cond d 9 0))
@@ -23,11 +23,11 @@ numbered false false false true = refl
 numbered false false false false = refl
 
 module _ (s : Stored) (samples row first count room : ℕ) where
-  -- the tests in the order of judging, each with its number: sides and row; set, frame, columns and precision; weights
+  -- the tests in the order of judging, each with its number: sides and row; the stored set, frame and columns; weights
   abbrev pub rowsU8 : List (Bool × ℕ)
   rowsU8 =
       (badSize (s .set .layout .lines) (windows (s .set .layout)) row, 1)
-      ∷ (badShape (s .set .layout) (length (s .set .weights)) samples row first count room || badPrecision store16 (s .precision), 10)
+      ∷ (badStored s store16 || badArea (s .set .layout .lines) (windows (s .set .layout)) samples row first count room, 10)
       ∷ (heavyWindows s, 9)
       ∷ []
 
@@ -35,7 +35,7 @@ module _ (s : Stored) (samples row first count room : ℕ) where
   unfolding passedU8
   is =
       numbered (badSize (s .set .layout .lines) (windows (s .set .layout)) row)
-      (badShape (s .set .layout) (length (s .set .weights)) samples row first count room) (badPrecision store16 (s .precision)) (heavyWindows s)
+      (badStored s store16) (badArea (s .set .layout .lines) (windows (s .set .layout)) samples row first count room) (heavyWindows s)
 
   pub passed-u8-exactly : (n : ℕ) → Exactly (numberOf (passedU8 s samples row first count room) ≡ n) (Due n rowsU8)
   passed-u8-exactly n = rw is (exactly-due n rowsU8 refl)

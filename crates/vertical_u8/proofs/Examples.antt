@@ -7,14 +7,13 @@ use Prim.Native.Nat.{ℕ}
 use lib.IntN.{ℤ, negsuc}
 use lib.ListN.{length}
 use Rattle.integers.specs.Sums.{sum, shifted, clipped}
-use Rattle.windows.specs.Set.{layoutOf, setOf, storedOf}
 use Rattle.vertical.specs.Frame.{frame}
-use Rattle.vertical.specs.Example.{sharp}
+use Rattle.vertical.specs.Example.{set4, sharp}
 use Rattle.vertical.specs.U16.{valueAt}
 use Rattle.vertical_u8.specs.U8.{sizesTotal, heavy}
 
 abbrev pass4 : List ℤ → List ℕ → ℕ
-pass4 weights samples = valueAt 255 (storedOf (setOf (layoutOf (length samples) (length weights) (0 ∷ []) (length weights ∷ [])) weights) 4) (frame 0 samples 1) 0 0
+pass4 weights samples = valueAt 255 (set4 weights (length samples)) (frame 0 samples 1) 0 0
 
 pub sharp-bytes : (pass4 sharp (100 ∷ 200 ∷ 100 ∷ []) ≡ 250) × (pass4 sharp (255 ∷ 0 ∷ 255 ∷ []) ≡ 0) × (pass4 sharp (0 ∷ 255 ∷ 0 ∷ []) ≡ 255)
 unfolding sum shifted clipped

@@ -7,11 +7,13 @@ use lib.ListN.{length}
 use Rattle.lists.specs.Tab.{tab, grid}
 use Rattle.refusal.specs.declared.Refusal.the-variants.{BadSide, DoesNotFit, WeightOutside}
 use Rattle.windows.specs.Set.{Stored, windows}
-use Rattle.windows.specs.Store.{store16, badPrecision}
+use Rattle.windows.specs.Store.{store16}
+use Rattle.windows.specs.Fit.{badStored}
 use Rattle.vertical.specs.declared.Passed.{Passed}
 use Rattle.vertical.specs.declared.Passed.the-variants.{Done, Refused}
 use Rattle.vertical.specs.Column.{windowValue}
-use Rattle.vertical.specs.Frame.{badSize, badShape}
+use Rattle.vertical.specs.Frame.{badSize, badArea}
+use Rattle.vertical.proofs.Answers.{Tests}
 use Rattle.vertical.proofs.Values.{output-of-cells}
 use Rattle.vertical_u8.specs.U8.{heavyWindows, passedU8, writtenU8}
 
@@ -25,19 +27,19 @@ module _ (s : Stored) (src : List ℕ) (row first count : ℕ) (old : List ℕ) 
   bad-size size = (rw size, rw size)
 
   module _ (size : badSize (s .set .layout .lines) (windows (s .set .layout)) row ≡ false) where
-    pub bad-shape : badShape (s .set .layout) (length (s .set .weights)) (length src) row first count (length old) ≡ true → Meets (Refused DoesNotFit) old
+    pub bad-stored : badStored s store16 ≡ true → Meets (Refused DoesNotFit) old
     unfolding passedU8 writtenU8
-    bad-shape shape = (rw (size, shape), rw (size, shape))
+    bad-stored stored = (rw (size, stored), rw (size, stored))
 
-    module _ (shape : badShape (s .set .layout) (length (s .set .weights)) (length src) row first count (length old) ≡ false) where
-      pub bad-precision : badPrecision store16 (s .precision) ≡ true → Meets (Refused DoesNotFit) old
-      unfolding passedU8 writtenU8
-      bad-precision precision = (rw (size, shape, precision), rw (size, shape, precision))
+    pub bad-area : badStored s store16 ≡ false → badArea (s .set .layout .lines) (windows (s .set .layout)) (length src) row first count (length old) ≡ true → Meets (Refused DoesNotFit) old
+    unfolding passedU8 writtenU8
+    bad-area stored area = (rw (size, stored, area), rw (size, stored, area))
 
-      pub too-heavy : badPrecision store16 (s .precision) ≡ false → heavyWindows s ≡ true → Meets (Refused WeightOutside) old
-      unfolding passedU8 writtenU8
-      too-heavy precision heavy = (rw (size, shape, precision, heavy), rw (size, shape, precision, heavy))
+  module _ (t : Tests store16 s (length src) row first count (length old)) where
+    pub too-heavy : heavyWindows s ≡ true → Meets (Refused WeightOutside) old
+    unfolding passedU8 writtenU8
+    too-heavy heavy = (rw (t .size, t .stored, t .area, heavy), rw (t .size, t .stored, t .area, heavy))
 
-      pub done : badPrecision store16 (s .precision) ≡ false → heavyWindows s ≡ false → (new : List ℕ) → new ≡ tab 0 (windows (s .set .layout) * count) (grid count (windowValue 255 src row first (s .set .layout .starts) (s .set .layout .sizes) (s .set .layout .windowSize) (s .set .weights) (s .precision))) → Meets Done new
-      unfolding passedU8 writtenU8
-      done precision heavy new cells = (rw (size, shape, precision, heavy), rw (size, shape, precision, heavy) (output-of-cells 255 s src row first count cells))
+    pub done : heavyWindows s ≡ false → (new : List ℕ) → new ≡ tab 0 (windows (s .set .layout) * count) (grid count (windowValue 255 src row first (s .set .layout .starts) (s .set .layout .sizes) (s .set .layout .windowSize) (s .set .weights) (s .precision))) → Meets Done new
+    unfolding passedU8 writtenU8
+    done heavy new cells = (rw (t .size, t .stored, t .area, heavy), rw (t .size, t .stored, t .area, heavy) (output-of-cells 255 s src row first count cells))

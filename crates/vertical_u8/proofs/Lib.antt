@@ -1,7 +1,6 @@
 pub mod Sizes
 pub mod Slices
 pub mod Judged
-pub mod ColumnCut
 pub mod Exactly
 pub mod Examples
 pub mod Sure

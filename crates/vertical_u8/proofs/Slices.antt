@@ -3,7 +3,6 @@ use mathlib.Core.Path.{_≡_, sym, ap, _∙_}
 use mathlib.Core.Bool.{Bool, false}
 use mathlib.Core.List.{List}
 use Prim.Native.Nat.{ℕ, _+_, _-_, _*_, _^_, _≤_, _<_}
-use native.Mathlib.Nat.{mul-le-mul}
 use native.Mathlib.Omega.{arith}
 use lib.Dec.{ltb}
 use lib.IntN.{ℤ, pos}
@@ -12,12 +11,9 @@ use lib.Seq.{getD-take, getD-drop}
 use borrow.Author.Tests.{ltb-false}
 use Rattle.lists.specs.Tab.{any}
 use Rattle.lists.proofs.AnyLaws.{any-none}
-use Rattle.lists.proofs.TabLaws.{row-end}
-use Rattle.windows.specs.Set.{layoutOf}
-use Rattle.windows.specs.Fit.{Fits}
 use Rattle.vertical.specs.Column.{weightAt}
 use Rattle.vertical_u8.specs.U8.{sizesTotal, heavy}
-use Rattle.vertical_u8.specs.Inner.{slotHeavy, InSlots}
+use Rattle.vertical_u8.specs.Inner.{slotHeavy}
 use Rattle.vertical_u8.proofs.Sizes.{total-ext}
 
 -- d and m are what the code has for the size n
@@ -34,11 +30,3 @@ pub slice-room : (window : ℕ) (weights : List ℤ) (sizes : List ℕ) (p i : �
 slice-room window weights sizes p i none l ed em =
     let h = ltb-false 2147483647 (255 * sizesTotal (λ k. getD weights (i * window + k) (pos 0)) (getD sizes i 0) + 2 ^ (p - 1)) (any-none (slotHeavy window weights sizes p) (length sizes) none i l) in
     rw (slice-total weights (i * window) (getD sizes i 0) ed em) (omega arith)
-
--- what the judge of the set left says where the weights are
-pub in-slots : (starts sizes : List ℕ) (window slots : ℕ) → Fits (layoutOf 8192 window starts sizes) slots → InSlots window sizes slots
-in-slots starts sizes window slots f = record {
-  there = λ i l. let h : i < length starts = omega (arith, f .pairs) in omega (arith, row-end i (length starts) window h, f .full, f .small i h);
-  few = λ i l. let h : i < length starts = omega (arith, f .pairs) in omega (arith, f .ends i h);
-  small = omega (arith, f .full, mul-le-mul (f .few-windows) (f .few-slots));
-}

@@ -1,17 +1,11 @@
--- What the inner functions of the u8 pass ask and give. Cited by their contracts only; the pass's own contract cites U8.antt. Definitions only. Assumes nothing.
+-- What the inner functions of the u8 pass give. Cited by their contracts only; the pass's own contract cites U8.antt. Definitions only. Assumes nothing.
 use mathlib.Core.Bool.{Bool}
 use mathlib.Core.List.{List}
-use Prim.Native.Nat.{ℕ, _+_, _*_, _^_, _≤_, _<_}
+use Prim.Native.Nat.{ℕ, _+_, _*_}
 use lib.IntN.{ℤ, pos}
-use lib.ListN.{length, getD}
+use lib.ListN.{getD}
 use Rattle.vertical_u8.specs.U8.{heavy}
 
 -- window i's weights in use, in the set's slots
 abbrev pub slotHeavy : ℕ → List ℤ → List ℕ → ℕ → ℕ → Bool
 slotHeavy window weights sizes p i = heavy p (λ k. getD weights (i * window + k) (pos 0)) (getD sizes i 0)
-
--- each window's weights in use stand in their slots, few of them
-pub record InSlots (window : ℕ) (sizes : List ℕ) (slots : ℕ) : Type 0 where
-  pub there : (i : ℕ) → i < length sizes → i * window + getD sizes i 0 ≤ slots
-  pub few : (i : ℕ) → i < length sizes → getD sizes i 0 ≤ 8192
-  pub small : slots < 2 ^ 30

@@ -9,11 +9,12 @@ use lib.ListN.{length}
 use Rattle.lists.specs.Tab.{any, turns}
 use Rattle.refusal.specs.declared.Refusal.the-variants.{BadSide, DoesNotFit, WeightOutside}
 use Rattle.windows.specs.Set.{Stored, windows, size, weight}
-use Rattle.windows.specs.Store.{store16, badPrecision}
+use Rattle.windows.specs.Store.{store16}
+use Rattle.windows.specs.Fit.{badStored}
 use Rattle.vertical.specs.declared.Passed.{Passed}
 use Rattle.vertical.specs.declared.Passed.the-variants.{Done, Refused}
 use Rattle.vertical.specs.Passed.{after}
-use Rattle.vertical.specs.Frame.{frame, output, badSize, badShape}
+use Rattle.vertical.specs.Frame.{frame, output, badSize, badArea}
 use Rattle.vertical.specs.U16.{valueAt}
 
 -- the sizes of n weights, added up
@@ -35,8 +36,8 @@ heavyWindows s = any (windows (s .set .layout)) (heavyAt s)
 unfoldable pub passedU8 : Stored → ℕ → ℕ → ℕ → ℕ → ℕ → Passed
 passedU8 s samples row first count room =
     cond (badSize (s .set .layout .lines) (windows (s .set .layout)) row) (Refused BadSide)
-    (cond (badShape (s .set .layout) (length (s .set .weights)) samples row first count room) (Refused DoesNotFit)
-    (cond (badPrecision store16 (s .precision)) (Refused DoesNotFit)
+    (cond (badStored s store16) (Refused DoesNotFit)
+    (cond (badArea (s .set .layout .lines) (windows (s .set .layout)) samples row first count room) (Refused DoesNotFit)
     (cond (heavyWindows s) (Refused WeightOutside)
     Done)))
 

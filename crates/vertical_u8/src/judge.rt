@@ -5,9 +5,10 @@ ghost use Prim.Native.Nat.{_-_, _^_, _≤_};
 ghost use lib.IntN.{natAbs};
 ghost use lib.ListN.{length};
 ghost use Rattle.lists.specs.Tab.{any};
+ghost use Rattle.windows.specs.Fit.{InSlots};
 ghost use Rattle.vertical.specs.Column.{weightAt};
 ghost use Rattle.vertical_u8.specs.U8.{sizesTotal, heavy};
-ghost use Rattle.vertical_u8.specs.Inner.{slotHeavy, InSlots};
+ghost use Rattle.vertical_u8.specs.Inner.{slotHeavy};
 
 // The size of a weight. -1 - w fits for every w below 0, where -w would not.
 fn size(w: i16) -> u64

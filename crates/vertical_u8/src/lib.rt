@@ -7,15 +7,14 @@ mod judge;
 mod rows;
 mod sums;
 
+use excesses::stored_fits16;
 use judge::some_heavy;
 use refusal::Refusal;
 use rows::rows;
 use vertical::Frame;
 use vertical::Passed;
-use vertical::shape_fits;
+use vertical::frame_fits;
 use vertical::size_fits;
-use windows::STORE16;
-use windows::precision_fits;
 ghost use mathlib.Core.Path.{_≡_};
 ghost use lib.ListN.{length};
 ghost use Rattle.windows.specs.Set.{layoutOf, setOf, storedOf};
@@ -28,28 +27,29 @@ pub fn vert_convolution_u8(
     weights: &[i16],
     starts: &[u32],
     sizes: &[u32],
+    excesses: &[i64],
     window_size: u32,
     precision: u32,
     out: &mut [u8],
 ) -> Passed
-    ensures answer { λ r. ⌜ r ≡ passedU8 (storedOf (setOf (layoutOf (frame .lines) «window_size» (now (starts .entry)) (now (sizes .entry))) (now (weights .entry))) precision) (length (now (src .entry))) (frame .row) (frame .first) (frame .count) (length (now (out .entry))) ⌝ }
-    ensures written { λ _. ⌜ now (out .exit) ≡ writtenU8 (storedOf (setOf (layoutOf (frame .lines) «window_size» (now (starts .entry)) (now (sizes .entry))) (now (weights .entry))) precision) (now (src .entry)) (frame .row) (frame .first) (frame .count) (now (out .entry)) ⌝ }
+    ensures answer { λ r. ⌜ r ≡ passedU8 (storedOf (setOf (layoutOf (frame .lines) «window_size» (now (starts .entry)) (now (sizes .entry))) (now (weights .entry))) precision (now (excesses .entry))) (length (now (src .entry))) (frame .row) (frame .first) (frame .count) (length (now (out .entry))) ⌝ }
+    ensures written { λ _. ⌜ now (out .exit) ≡ writtenU8 (storedOf (setOf (layoutOf (frame .lines) «window_size» (now (starts .entry)) (now (sizes .entry))) (now (weights .entry))) precision (now (excesses .entry))) (now (src .entry)) (frame .row) (frame .first) (frame .count) (now (out .entry)) ⌝ }
 {
     if !size_fits(frame, starts.len()) {
         return Passed::Refused(Refusal::BadSide);
     }
-    if !shape_fits(
-        frame,
-        src.len(),
+    if !stored_fits16(
+        frame.lines,
         window_size,
-        weights.len(),
+        precision,
+        weights,
         starts,
         sizes,
-        out.len(),
+        excesses,
     ) {
         return Passed::Refused(Refusal::DoesNotFit);
     }
-    if !precision_fits(STORE16, precision) {
+    if !frame_fits(frame, src.len(), starts.len(), out.len()) {
         return Passed::Refused(Refusal::DoesNotFit);
     }
     if some_heavy(weights, sizes, window_size as usize, precision) {

@@ -11,9 +11,10 @@ use Rattle.lists.specs.Ranges.{outside, badSides}
 use Rattle.lists.specs.Tab.{any}
 use Rattle.lists.proofs.AnyLaws.{any-none}
 use Rattle.lists.proofs.BoolLaws.{or-left, or-right}
+use Rattle.lists.proofs.TabLaws.{row-end}
 use Rattle.lists.proofs.RangeLaws.{InRange, not-outside, first-side, second-side}
 use Rattle.windows.specs.Set.{Layout, layoutOf, windows, start, size}
-use Rattle.windows.specs.Fit.{badCounts, badAt, badSet, Fits}
+use Rattle.windows.specs.Fit.{badCounts, badAt, badSet, Fits, InSlots}
 
 -- the counts agree
 module _ (windowSize slots starts sizes : ℕ) (h : badCounts windowSize slots starts sizes ≡ false) where
@@ -73,4 +74,13 @@ module _ (l : Layout) (slots : ℕ) where
     some = f .some;
     small = f .small;
     ends = λ i k. omega (arith, f .ends i k, f .few-lines);
+  }
+
+  -- and of windows that are read slot by slot, where there are at least so many slots
+  pub in-slots : Fits l slots → (room : ℕ) → slots ≤ room → InSlots (l .windowSize) (l .sizes) room
+  in-slots f room more = record {
+    many = omega (arith, f .few-windows, f .pairs);
+    wide = f .few-slots;
+    there = λ i k. let w : i < windows l = omega (arith, f .pairs) in omega (arith, row-end i (windows l) (l .windowSize) w, f .small i w, f .full);
+    few = λ i k. let w : i < windows l = omega (arith, f .pairs) in omega (arith, f .ends i w, f .few-lines);
   }

@@ -1,14 +1,17 @@
--- When windows fit their lists: document 01's No. 10 as far as windows, counts of lists and a store's precision go; and what is left true where they do. Cited by the contracts of `windows`, and by the refusals and inner contracts of the normalisers, the passes and the sheet writer. Definitions only.
--- Assumes nothing.
+-- When windows fit their lists: document 01's No. 10 as far as windows, counts of lists, a store's precision and excesses go; and what is left true where they do. Cited by the
+-- contracts of `windows` and `excesses`, and by the refusals and inner contracts of the normalisers, the passes, the sheet writer and the readers. Definitions only. Assumes nothing.
 use mathlib.Core.Path.{_≡_}
 use mathlib.Core.Bool.{Bool, not, _||_}
+use mathlib.Core.List.{List}
 use Prim.Native.Nat.{ℕ, _+_, _*_, _≤_, _<_}
 use lib.Dec.{eqb, ltb}
-use lib.ListN.{length}
-use Rattle.lists.specs.Ranges.{outside}
+use lib.IntN.{ℤ, pos}
+use lib.ListN.{length, getD}
+use lib.Signed.{ltZ}
+use Rattle.lists.specs.Ranges.{outside, badSides}
 use Rattle.lists.specs.Tab.{any}
 use Rattle.windows.specs.declared.Store.{Store}
-use Rattle.windows.specs.Set.{Layout, windows, start, size}
+use Rattle.windows.specs.Set.{Layout, Stored, windows, start, size, excessOf}
 use Rattle.windows.specs.Store.{badPrecision}
 
 -- No. 10: a window size outside 1 to 32,769; starts and sizes of different counts; slots that are not windows x window size
@@ -28,9 +31,26 @@ module _ (l : Layout) where
   abbrev pub badSet : ℕ → Bool
   badSet slots = badCounts (l .windowSize) slots (windows l) (length (l .sizes)) || any (windows l) badAt
 
-  -- No. 10 of a stored set: these, or the precision
-  abbrev pub badStored : Store → ℕ → ℕ → Bool
-  badStored store slots precision = badSet slots || badPrecision store precision
+-- two numbers differ: one is below the other
+abbrev pub differ : ℤ → ℤ → Bool
+differ x y = ltZ x y || ltZ y x
+
+module _ (s : Stored) where
+  -- No. 10: the excess that the set has for window i is not the window's
+  abbrev pub badExcess : ℕ → Bool
+  badExcess i = differ (excessOf s i) (getD (s .excesses) i (pos 0))
+
+  -- No. 10: not one excess for each window, or a wrong one
+  abbrev pub badExcesses : Bool
+  badExcesses = not (eqb (length (s .excesses)) (windows (s .set .layout))) || any (windows (s .set .layout)) badExcess
+
+  -- No. 10 of a stored set: its layout and slots, its precision, or its excesses
+  abbrev pub badStored : Store → Bool
+  badStored store = (badSet (s .set .layout) (length (s .set .weights)) || badPrecision store (s .precision)) || badExcesses
+
+  -- No. 1 or No. 10 of it
+  abbrev pub unfit : Store → Bool
+  unfit store = badSides (s .set .layout .lines) (windows (s .set .layout)) || badStored store
 
 -- what No. 1 and No. 10 leave true of a layout and so many slots where neither is due, in plain numbers. A function that does not know the count of camera lines
 -- asks it of 8,192, the most there are
@@ -46,3 +66,10 @@ pub record Fits (l : Layout) (slots : ℕ) : Type 0 where
   pub some : (i : ℕ) → i < windows l → 1 ≤ size l i
   pub small : (i : ℕ) → i < windows l → size l i ≤ l .windowSize
   pub ends : (i : ℕ) → i < windows l → start l i + size l i ≤ l .lines
+
+-- each window's weights in use stand in the slots, and are few: what is asked where windows are read slot by slot
+pub record InSlots (windowSize : ℕ) (sizes : List ℕ) (slots : ℕ) : Type 0 where
+  pub many : length sizes ≤ 8192
+  pub wide : windowSize ≤ 32769
+  pub there : (i : ℕ) → i < length sizes → i * windowSize + getD sizes i 0 ≤ slots
+  pub few : (i : ℕ) → i < length sizes → getD sizes i 0 ≤ 8192

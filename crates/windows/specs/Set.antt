@@ -1,10 +1,10 @@
 -- Windows over camera lines, the weights that stand in their slots, and a set that was stored as integers, with how their lists are read. Cited by the contracts
 -- of the normalisers, the passes and the sheet writer, and by the promises. Definitions only. Assumes nothing.
-use mathlib.Core.Bool.{Bool}
+use mathlib.Core.Bool.{Bool, cond}
 use mathlib.Core.List.{List}
 use Prim.Native.Nat.{ℕ, _+_, _*_, _/_, _%_, _^_}
 use lib.Dec.{ltb}
-use lib.IntN.{ℤ, pos}
+use lib.IntN.{ℤ, pos, _-ℤ_}
 use lib.ListN.{length, getD}
 use Rattle.integers.specs.Sums.{sum, distance}
 
@@ -55,17 +55,29 @@ setOf layout weights = record { layout = layout; weights = weights }
 abbrev pub weight : {W : Type 0} → Set W → W → ℕ → ℕ → W
 weight s d i k = getD (s .weights) (i * s .layout .windowSize + k) d
 
--- a set as a store holds it: integer weights, and the precision that they all have
+-- the list that a set's weights are lent in: of the 32-bit store where `wide`, else of the 16-bit one
+abbrev pub lent : Bool → List ℤ → List ℤ → List ℤ
+lent wide short long = cond wide long short
+
+-- the excess of n weights at a precision p: their total less 2^p, which stands for 1
+unfoldable pub excess : ℕ → (ℕ → ℤ) → ℕ → ℤ
+excess p w n = sum w n -ℤ pos (2 ^ p)
+
+-- a set as a store holds it: integer weights, the precision that they all have, and an excess for each window
 pub record Stored : Type 0 where
   pub set : Set ℤ
   pub precision : ℕ
+  pub excesses : List ℤ
 
-abbrev pub storedOf : Set ℤ → ℕ → Stored
-storedOf set precision = record { set = set; precision = precision }
+abbrev pub storedOf : Set ℤ → ℕ → List ℤ → Stored
+storedOf set precision excesses = record { set = set; precision = precision; excesses = excesses }
 
--- the total of window i's weights in use, and how far it is from 2^precision, which stands for 1
+-- the total of window i's weights in use, how far it is from 2^precision, and by how much it is above
 abbrev pub totalOf : Stored → ℕ → ℤ
 totalOf s i = sum (weight (s .set) (pos 0) i) (size (s .set .layout) i)
 
 abbrev pub distanceOf : Stored → ℕ → ℕ
 distanceOf s i = distance (totalOf s i) (pos (2 ^ s .precision))
+
+abbrev pub excessOf : Stored → ℕ → ℤ
+excessOf s i = excess (s .precision) (weight (s .set) (pos 0) i) (size (s .set .layout) i)

@@ -1,5 +1,5 @@
-// `windows`: the two numberings of lines, a window of camera lines, the stores of integer weights, and the one judge of whether sides, windows and precision fit.
-// Normalisers, passes and the sheet writer ask it; `badSides` is No. 1 of document 01, `badSet` and `badStored` No. 10 as far as they share it.
+// `windows`: the two numberings of lines, a window of camera lines, the stores of integer weights, and the judge of whether sides, windows and precision fit.
+// Normalisers, passes and `excesses` ask it; `badSides` is No. 1 of document 01, `badSet` No. 10 as far as they share it.
 mod counts;
 mod precisions;
 
@@ -11,7 +11,7 @@ ghost use mathlib.Core.Path.{_≡_};
 ghost use mathlib.Core.Bool.{not};
 ghost use Rattle.lists.specs.Ranges.{badSides};
 ghost use Rattle.windows.specs.Set.{layoutOf};
-ghost use Rattle.windows.specs.Fit.{badSet, badStored};
+ghost use Rattle.windows.specs.Fit.{badSet};
 
 // a line of the camera's frame, counted from 0
 pub struct CameraLine(pub u32);
@@ -56,22 +56,4 @@ pub fn set_fits(lines: u32, window_size: u32, slots: usize, starts: &[u32], size
         return false;
     }
     !some_misfits(lines, window_size, starts, sizes)
-}
-
-// Whether a stored set fits, its precision too, for any numbers and lists.
-pub fn stored_fits(
-    store: Store,
-    lines: u32,
-    window_size: u32,
-    precision: u32,
-    slots: usize,
-    starts: &[u32],
-    sizes: &[u32],
-) -> bool
-    ensures answer { λ r. ⌜ r ≡ not (badStored (layoutOf lines «window_size» (now (starts .entry)) (now (sizes .entry))) store slots precision) ⌝ }
-{
-    if !set_fits(lines, window_size, slots, starts, sizes) {
-        return false;
-    }
-    precision_fits(store, precision)
 }

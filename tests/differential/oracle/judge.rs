@@ -19,6 +19,19 @@ pub fn windows_fit(lines: u32, window: u32, slots: usize, starts: &[u32], sizes:
         })
 }
 
+/// The excess of a window (W-207): the total of its weights in use less 2^precision.
+pub fn excess<T: Copy + Into<i64>>(in_use: &[T], precision: u32) -> i64 {
+    in_use.iter().map(|&w| w.into()).sum::<i64>() - (1i64 << precision)
+}
+
+/// A stored set's precision and excesses, as a pass and the writer read No. 10, for windows that fit.
+pub fn stored_fits<T: Copy + Into<i64>>(
+    most: u32, window: u32, precision: u32, weights: &[T], sizes: &[u32], excesses: &[i64],
+) -> bool {
+    let right = |(i, &size): (usize, &u32)| excesses[i] == excess(&weights[i * window as usize..][..size as usize], precision);
+    (4..=most).contains(&precision) && excesses.len() == sizes.len() && sizes.iter().enumerate().all(right)
+}
+
 /// The sides of a set: the counts of lines and of starts.
 pub fn set_sides_fit(lines: u32, starts: &[u32]) -> bool {
     side_fits(lines as u64) && side_fits(starts.len() as u64)
@@ -74,13 +87,14 @@ pub fn precision(slots: &[f64], bits: u32, limit: i32) -> u32 {
 }
 
 /// A normaliser's 1, 7, 10 and 9, in that order.
+#[allow(clippy::too_many_arguments)]
 pub fn normalizer(
-    lines: u32, window: u32, slots: &[f64], starts: &[u32], sizes: &[u32], lent: usize, bits: u32, limit: i32,
+    lines: u32, window: u32, slots: &[f64], starts: &[u32], sizes: &[u32], lent: usize, places: usize, bits: u32, limit: i32,
 ) -> u32 {
     if !set_sides_fit(lines, starts) {
         return 1;
     }
-    if (lent as u64) < starts.len() as u64 * window as u64 {
+    if (lent as u64) < starts.len() as u64 * window as u64 || places < starts.len() {
         return 7;
     }
     if !windows_fit(lines, window, slots.len(), starts, sizes) {

@@ -25,7 +25,7 @@ fn signed(word: &str, least: i64, most: i64) -> Option<i64> {
     let Some(digits) = word.strip_prefix('-') else {
         return number(word, most as u64).map(|n| n as i64);
     };
-    number(digits, least.unsigned_abs()).filter(|&n| n != 0).map(|n| -(n as i64))
+    number(digits, least.unsigned_abs()).filter(|&n| n != 0).map(|n| (n as i64).wrapping_neg())
 }
 
 pub fn i32_of(word: &str) -> Option<i32> {
@@ -73,6 +73,10 @@ pub fn i16s(word: &str) -> Option<Vec<i16>> {
 
 pub fn i32s(word: &str) -> Option<Vec<i32>> {
     list(word, i32_of)
+}
+
+pub fn i64s(word: &str) -> Option<Vec<i64>> {
+    list(word, |w| signed(w, i64::MIN, i64::MAX))
 }
 
 pub fn f32s(word: &str) -> Option<Vec<f32>> {

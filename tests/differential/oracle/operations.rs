@@ -18,10 +18,10 @@ pub fn answer(text: &str, bare: bool) -> Option<String> {
         ("crop", 6) => crop(fields, bare),
         ("fit", 5 | 6) => fit(fields, bare),
         ("build", 13) => build(fields, bare),
-        ("norm16", 6) => normalize(fields, bare, 22, 15, Door::NORMALIZE16),
-        ("norm32", 6) => normalize(fields, bare, 46, 31, Door::NORMALIZE32),
-        ("u16pass", 11) => u16pass(fields, bare),
-        ("u8pass", 11) => u8pass(fields, bare),
+        ("norm16", 7) => normalize(fields, bare, 22, 15, Door::NORMALIZE16),
+        ("norm32", 7) => normalize(fields, bare, 46, 31, Door::NORMALIZE32),
+        ("u16pass", 12) => u16pass(fields, bare),
+        ("u8pass", 12) => u8pass(fields, bare),
         ("f32pass", 10) => f32pass(fields, bare),
         ("mul8", 2) => alpha(false, fields, bare),
         ("div8", 2) => alpha(true, fields, bare),
@@ -31,7 +31,7 @@ pub fn answer(text: &str, bare: bool) -> Option<String> {
         ("div16", 2) => alpha16(true, fields, bare),
         ("mul16in", 1) => alpha16_in_place(false, fields, bare),
         ("div16in", 1) => alpha16_in_place(true, fields, bare),
-        ("sheet", 9) => sheet(fields, bare),
+        ("sheet", 10) => sheet(fields, bare),
         _ => None,
     }
 }
@@ -177,7 +177,8 @@ fn build(fields: &[&str], bare: bool) -> Option<String> {
     shown(0, 0, set.window, &laid(&set.slots, slots), &laid(&set.starts, starts), &laid(&set.sizes, sizes))
 }
 
-fn normalize<T: Clone + Default + From<u8> + ToString>(
+/// The Rust has no excesses: they are worked out here, from its weights.
+fn normalize<T: Copy + Default + From<u8> + Into<i64> + ToString>(
     fields: &[&str], bare: bool, bits: u32, limit: i32, given: fn(&Weights) -> Integers<T>,
 ) -> Option<String> {
     let (lines, window) = (u32_of(fields[0])?, u32_of(fields[1])?);
@@ -185,21 +186,24 @@ fn normalize<T: Clone + Default + From<u8> + ToString>(
     let starts = u32s(fields[3])?;
     let sizes = u32s(fields[4])?;
     let mut out: Vec<T> = lent_of(length(fields[5])?);
+    let mut excesses: Vec<i64> = lent(length(fields[6])?);
     if !bare {
-        let no = judge::normalizer(lines, window, &slots, &starts, &sizes, out.len(), bits, limit);
+        let no = judge::normalizer(lines, window, &slots, &starts, &sizes, out.len(), excesses.len(), bits, limit);
         if no != 0 {
-            return Some(format!("{no} 0 {}", decimals(&out)));
+            return Some(format!("{no} 0 {} {}", decimals(&out), decimals(&excesses)));
         }
     }
     let window = window as usize;
     let made = given(&Weights { window, slots, starts, sizes });
+    let found: Vec<i64> = made.windows.iter().map(|weights| judge::excess(weights, made.precision)).collect();
     let mut values = Vec::new();
     for mut weights in made.windows {
         weights.resize(window, T::default());
         values.append(&mut weights);
     }
     out = laid(&values, out);
-    Some(format!("0 {} {}", made.precision, decimals(&out)))
+    excesses = laid(&found, excesses);
+    Some(format!("0 {} {} {}", made.precision, decimals(&out), decimals(&excesses)))
 }
 
 fn lent_of<T: From<u8>>(length: usize) -> Vec<T> {
@@ -213,8 +217,9 @@ fn u16pass(fields: &[&str], bare: bool) -> Option<String> {
     let weights = i32s(fields[6])?;
     let starts = u32s(fields[7])?;
     let sizes = u32s(fields[8])?;
-    let samples = u16s(fields[9])?;
-    let mut out: Vec<u16> = lent(length(fields[10])?);
+    let excesses = i64s(fields[9])?;
+    let samples = u16s(fields[10])?;
+    let mut out: Vec<u16> = lent(length(fields[11])?);
     if bare && precision > 45 {
         return undefined();
     }
@@ -222,7 +227,7 @@ fn u16pass(fields: &[&str], bare: bool) -> Option<String> {
         let lists = judge::pass(
             lines, row, first, count, window, weights.len(), &starts, &sizes, samples.len(), out.len(),
         );
-        let no = if lists == 0 && !(4..=45).contains(&precision) { 10 } else { lists };
+        let no = if lists == 0 && !judge::stored_fits(45, window, precision, &weights, &sizes, &excesses) { 10 } else { lists };
         if no != 0 {
             return Some(format!("{no} {}", decimals(&out)));
         }
@@ -239,8 +244,9 @@ fn u8pass(fields: &[&str], bare: bool) -> Option<String> {
     let weights = i16s(fields[6])?;
     let starts = u32s(fields[7])?;
     let sizes = u32s(fields[8])?;
-    let samples = u8s(fields[9])?;
-    let mut out: Vec<u8> = lent(length(fields[10])?);
+    let excesses = i64s(fields[9])?;
+    let samples = u8s(fields[10])?;
+    let mut out: Vec<u8> = lent(length(fields[11])?);
     if bare {
         return undefined();
     }
@@ -248,7 +254,7 @@ fn u8pass(fields: &[&str], bare: bool) -> Option<String> {
         lines, row, first, count, window, weights.len(), &starts, &sizes, samples.len(), out.len(),
     );
     let no = match lists {
-        0 if !(4..=21).contains(&precision) => 10,
+        0 if !judge::stored_fits(21, window, precision, &weights, &sizes, &excesses) => 10,
         0 if judge::heavy(window, &weights, &sizes, precision) => 9,
         no => no,
     };
@@ -350,10 +356,11 @@ fn sheet(fields: &[&str], bare: bool) -> Option<String> {
     let precision = u32_of(fields[4])?;
     let starts = u32s(fields[6])?;
     let sizes = u32s(fields[7])?;
-    let room = length(fields[8])?;
+    let excesses = i64s(fields[8])?;
+    let room = length(fields[9])?;
     let answer = match fields[3] {
-        "16" => sheet::answer(fields[0], lines, window, 16, precision, &i16s(fields[5])?, &starts, &sizes, room),
-        "32" => sheet::answer(fields[0], lines, window, 32, precision, &i32s(fields[5])?, &starts, &sizes, room),
+        "16" => sheet::answer(fields[0], lines, window, 16, precision, &i16s(fields[5])?, &starts, &sizes, &excesses, room),
+        "32" => sheet::answer(fields[0], lines, window, 32, precision, &i32s(fields[5])?, &starts, &sizes, &excesses, room),
         _ => return None,
     };
     if bare { undefined() } else { Some(answer) }

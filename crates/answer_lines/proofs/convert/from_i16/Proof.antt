@@ -1,14 +1,14 @@
--- convert::from_i16 is safe: a number of 16 bits is one of 32 bits. Assumes nothing.
+-- convert::from_i16 is safe: a number of 16 bits is one of 64 bits. Assumes nothing.
 use borrow.Author.Needs.{needs}
 use Rattle.answer_lines.proofs.convert.from_i16.Statement.{statement}
 use Rattle.answer_lines.proofs.convert.from_i16.Tie as tie
 use mir.Facts.{fits-ofZ, sfits-toZ, sfits-widen}
 
-cast-from-i32 : tie.Need-cast-from-i32
-cast-from-i32 c = sfits-widen tt (sfits-toZ (fits-ofZ (c .fits .x)))
+cast-from-i64 : tie.Need-cast-from-i64
+cast-from-i64 c = sfits-widen tt (sfits-toZ (fits-ofZ (c .fits .x)))
 
 returns : tie.Need-returns
 returns c = search needs
 
 pub from-i16-spec : {M : Type 1} → statement M
-from-i16-spec = tie.close (tie.spec cast-from-i32 (λ c κs. search needs) returns)
+from-i16-spec = tie.close (tie.spec cast-from-i64 (λ c κs. search needs) returns)

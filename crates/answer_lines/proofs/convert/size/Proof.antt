@@ -6,19 +6,19 @@ use Rattle.lists.proofs.SizeLaws.{Below, below, Above, above}
 use mathlib.Core.Path.{_≡_, _∙_, ap}
 use native.Mathlib.Omega.{arith}
 use lib.IntN.{ℤ, pos, negsuc, _-ℤ_}
-use mir.Syntax.{w32}
+use mir.Syntax.{w64}
 use mir.Val.{toZ, ofZ}
 use mir.Facts.{toZ-ofZ, toZ-pos}
 
-low : (c : tie.Then1) → Below 31 (c .before .args .v)
-low c = below 31 (c .before .args .v) (c .before .fits .v .sfits) (rw (toZ-ofZ (c .before .fits .v)) at (c .if1 .taken))
+low : (c : tie.Then1) → Below 63 (c .before .args .v)
+low c = below 63 (c .before .args .v) (c .before .fits .v .sfits) (rw (toZ-ofZ (c .before .fits .v)) at (c .if1 .taken))
 
-high : (c : tie.Else1) → Above 31 (c .before .args .v)
-high c = above 31 (c .before .args .v) (c .before .fits .v .sfits) (rw (toZ-ofZ (c .before .fits .v)) at (c .if1 .left))
+high : (c : tie.Else1) → Above 63 (c .before .args .v)
+high c = above 63 (c .before .args .v) (c .before .fits .v .sfits) (rw (toZ-ofZ (c .before .fits .v)) at (c .if1 .left))
 
 -- the bits of -1 - v, read back
-back : (c : tie.Then1) → toZ w32 (ofZ w32 (negsuc 0 -ℤ c .before .args .v)) ≡ pos (low c .n)
-back c = ap (λ (z : ℤ). toZ w32 (ofZ w32 z)) (low c .is) ∙ toZ-pos w32 {n = low c .n} (low c .small)
+back : (c : tie.Then1) → toZ w64 (ofZ w64 (negsuc 0 -ℤ c .before .args .v)) ≡ pos (low c .n)
+back c = ap (λ (z : ℤ). toZ w64 (ofZ w64 z)) (low c .is) ∙ toZ-pos w64 {n = low c .n} (low c .small)
 
 sub-result : tie.Need-sub-result
 sub-result c = rw (toZ-ofZ (c .before .fits .v), low c .is) (record { sfits = low c .small })

@@ -7,10 +7,10 @@ use lib.ListN.{length}
 use borrow.Author.Needs.{needs}
 
 abbrev Inv-loop : tie.InvT-loop
-Inv-loop len b h w s l y x n out₀ p₀ i₀ out p i = (i ≤ len) × (length out ≡ length out₀)
+Inv-loop len b h w i j l y x n out₀ p₀ k₀ out p k = (k ≤ len) × (length out ≡ length out₀)
 
 abbrev μ-loop : tie.MeasureT-loop
-μ-loop len b h w s l y x n out₀ p₀ i₀ out p i = len - i
+μ-loop len b h w i j l y x n out₀ p₀ k₀ out p k = len - k
 
 pub show-spec : {M : Type 1} → statement M
 show-spec =

@@ -2,26 +2,19 @@
 use borrow.Author.Needs.{needs}
 use Rattle.reader.proofs.judge.reading_of.Statement.{statement}
 use Rattle.reader.proofs.judge.reading_of.Tie as tie
-use Rattle.reader.proofs.judge.reading_of.Reads as reads
-use Rattle.reader.proofs.judge.reading_of.Lts as lts
 use mathlib.Core.Path.{_≡_, refl, sym, ap, _∙_}
 use Rattle.reader.specs.Reading.{readingOf}
 use native.Mathlib.Omega.{arith}
-use native.Mathlib.Omega.{arith}
 
--- src/judge.rt:68:23
 enum-known-judged : tie.Need-enum-known-judged
 enum-known-judged c = search needs
 
--- src/judge.rt:69:24
 enum-known-judged-2 : tie.Need-enum-known-judged-2
 enum-known-judged-2 c = search needs
 
--- src/judge.rt:64:1
 returns : tie.Need-returns
 returns c = sym (ap readingOf (c .before .judged .given .1))
 
--- src/judge.rt:64:1
 returns-2 : tie.Need-returns-2
 returns-2 c = sym (ap readingOf (c .before .judged2 .given .1))
 

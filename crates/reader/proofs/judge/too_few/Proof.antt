@@ -2,22 +2,16 @@
 use borrow.Author.Needs.{needs}
 use Rattle.reader.proofs.judge.too_few.Statement.{statement}
 use Rattle.reader.proofs.judge.too_few.Tie as tie
-use Rattle.reader.proofs.judge.too_few.Reads as reads
-use Rattle.reader.proofs.judge.too_few.Lts as lts
 use Prim.Native.Nat.{_*_, _^_, _≤_, _<_}
 use native.Mathlib.Nat.{mul-le-mul}
 use native.Mathlib.Omega.{arith}
-use native.Mathlib.Omega.{arith}
 
--- src/judge.rt:37:19
 cast-windows : tie.Need-cast-windows
 cast-windows c = search needs
 
--- src/judge.rt:38:23
 cast-window-size : tie.Need-cast-window-size
 cast-window-size c = search needs
 
--- src/judge.rt:39:15
 mul-result : tie.Need-mul-result
 mul-result c =
     let v = c .before .before .args .v in
@@ -28,7 +22,6 @@ mul-result c =
     let all : v .windows * v .«window_size» ≤ 4294967295 * 4294967295 = mul-le-mul l m in
     record { fits = omega arith }
 
--- src/judge.rt:34:1
 returns : tie.Need-returns
 returns c = search needs
 

@@ -2,29 +2,20 @@
 use borrow.Author.Needs.{needs}
 use Rattle.reader.proofs.slots16.fill_row16.Statement.{statement}
 use Rattle.reader.proofs.slots16.fill_row16.Tie as tie
-use Rattle.reader.proofs.slots16.fill_row16.Reads as reads
-use Rattle.reader.proofs.slots16.fill_row16.Lts as lts
-use Rattle.reader.proofs.slots16.put_weights16.Reads as put-weights16-reads
-use Rattle.reader.proofs.slots16.zero16.Reads as zero16-reads
 use mathlib.Core.Path.{_≡_, refl, sym, ap, _∙_}
 use lib.ListN.{length}
 use Rattle.reader.proofs.SlotLaws.{row-slots}
 use native.Mathlib.Omega.{arith}
-use native.Mathlib.Omega.{arith}
 
--- src/slots16.rt:49:5
 zero16-requires : tie.Need-zero16-requires
 zero16-requires c κs = search needs
 
--- src/slots16.rt:50:5
 put-weights16-requires : tie.Need-put-weights16-requires
 put-weights16-requires c κs = search needs
 
--- src/slots16.rt:43:1
 same-length : tie.Need-same-length
 same-length c = search needs
 
--- src/slots16.rt:43:1
 returns : tie.Need-returns
 returns c =
     let a = c .before .before .before .before .before .before .before in

@@ -1,10 +1,6 @@
 -- `fill_slots16`: after i turns the rows of the first i windows are filled, and the next line is at p (`Slotted`). Assumes nothing.
 use Rattle.reader.proofs.slots16.fill_slots16.Statement.{statement}
 use Rattle.reader.proofs.slots16.fill_slots16.Tie as tie
-use Rattle.reader.proofs.slots16.fill_slots16.Reads as reads
-use Rattle.reader.proofs.slots16.fill_slots16.Lts as lts
-use Rattle.reader.proofs.pieces.opened.Reads as opened-reads
-use Rattle.reader.proofs.slots16.fill_row16.Reads as fill-row16-reads
 use mathlib.Core.Path.{_≡_, refl, sym, ap, _∙_}
 use Prim.Native.Nat.{ℕ, _+_, _*_, _-_, _≤_}
 use lib.ListN.{length}
@@ -12,11 +8,10 @@ use Rattle.lists.specs.Tab.{tab}
 use Rattle.sheet_scan.specs.Whole.{slotOf}
 use Rattle.lists.proofs.TabLaws.{row-end}
 use Rattle.scan.proofs.FieldLaws.{found-within}
-use Rattle.reader.proofs.LineLaws.{Lined, lined-there, lined-items}
+use Rattle.excess_scan.proofs.LineLaws.{Lined, lined-there, lined-items}
 use Rattle.reader.proofs.SlotLaws.{Slotted, slotted-none, slotted-more, slotted-all}
 use native.Mathlib.Omega.{arith}
 use borrow.Author.Needs.{needs}
-use native.Mathlib.Omega.{arith}
 
 abbrev Inv-loop : tie.InvT-loop
 Inv-loop lines outs window limit text at weights₀ wide p₀ a₀ i₀ weights p a i = (wide ≡ window) × Slotted lines window limit outs text at weights₀ weights p a i
@@ -24,18 +19,15 @@ Inv-loop lines outs window limit text at weights₀ wide p₀ a₀ i₀ weights 
 abbrev μ-loop : tie.MeasureT-loop
 μ-loop lines outs window limit text at weights₀ wide p₀ a₀ i₀ weights p a i = outs - i
 
--- src/slots16.rt:72:5
 loop-holds : tie.Need-loop-holds Inv-loop μ-loop
 loop-holds c = (refl, slotted-none _ _ _ _ _ _ _ (c .before .pre .0 .4))
 
--- src/slots16.rt:73:13
 opened-requires : tie.Need-opened-requires Inv-loop μ-loop
 opened-requires c κs =
     let a = c .before .before .before in
     let inv = c .before .loop .inv .1 .lined in
     ((a .pre .0 .0, a .pre .0 .1, inv .within), lined-there _ _ _ _ _ _ (a .pre .1 .1) inv (search needs))
 
--- src/slots16.rt:74:17
 add-e : tie.Need-add-e Inv-loop μ-loop
 add-e c =
     let a = c .before .before .before .before in
@@ -46,7 +38,6 @@ add-e c =
     let long = inv .long in
     search needs
 
--- src/slots16.rt:75:59
 mul-fill-row16 : tie.Need-mul-fill-row16 Inv-loop μ-loop
 mul-fill-row16 c =
     let a = c .before .before .before .before in
@@ -57,15 +48,12 @@ mul-fill-row16 c =
     let long = inv .long in
     search needs
 
--- src/slots16.rt:75:59
 sub-fill-row16 : tie.Need-sub-fill-row16 Inv-loop μ-loop
 sub-fill-row16 c = search needs
 
--- src/slots16.rt:75:59
 part-fill-row16-start : tie.Need-part-fill-row16-start Inv-loop μ-loop
 part-fill-row16-start c = search needs
 
--- src/slots16.rt:75:59
 part-fill-row16-end : tie.Need-part-fill-row16-end Inv-loop μ-loop
 part-fill-row16-end c =
     let a = c .before .before .before .before in
@@ -76,7 +64,6 @@ part-fill-row16-end c =
     let long = inv .long in
     search needs
 
--- src/slots16.rt:75:9
 fill-row16-requires : tie.Need-fill-row16-requires Inv-loop μ-loop
 fill-row16-requires c κs =
     let a = c .before .before .before .before .before in
@@ -86,15 +73,12 @@ fill-row16-requires c κs =
     let part = c .fill-row16-arg .given .1 in
     ((a .pre .0 .2, a .pre .0 .3, found-within _ (inv .lined .within) f, omega arith), lined-items _ _ _ _ _ _ (search needs) (inv .lined) (search needs) f (a .pre .1 .1))
 
--- src/slots16.rt:77:9
 add-i : tie.Need-add-i Inv-loop μ-loop
 add-i c = search needs
 
--- src/slots16.rt:72:5
 loop-less : tie.Need-loop-less Inv-loop μ-loop
 loop-less c = search needs
 
--- src/slots16.rt:72:5
 loop-again : tie.Need-loop-again Inv-loop μ-loop
 loop-again c =
     let a = c .before .before .before .before .before .before .before in
@@ -106,11 +90,9 @@ loop-again c =
     let wide : off + window - off ≡ window = omega arith in
     (refl, slotted-more _ _ _ _ _ _ _ (search needs) (a .pre .1 .1) (a .pre .1 .0) inv (search needs) (c .before .before .before .opened .ensures) wide (ens .0) (λ vs next g. ens .1 vs next g ∙ ap (λ (n : ℕ). tab 0 n (slotOf vs)) (sym part ∙ wide)))
 
--- src/slots16.rt:54:1
 same-length : tie.Need-same-length Inv-loop μ-loop
 same-length c = c .before .loop .inv .1 .long
 
--- src/slots16.rt:54:1
 returns : tie.Need-returns Inv-loop μ-loop
 returns c = slotted-all _ _ _ _ _ _ _ (c .before .loop .inv .1) (search needs)
 

@@ -2,29 +2,20 @@
 use borrow.Author.Needs.{needs}
 use Rattle.reader.proofs.slots32.fill_row32.Statement.{statement}
 use Rattle.reader.proofs.slots32.fill_row32.Tie as tie
-use Rattle.reader.proofs.slots32.fill_row32.Reads as reads
-use Rattle.reader.proofs.slots32.fill_row32.Lts as lts
-use Rattle.reader.proofs.slots32.put_weights32.Reads as put-weights32-reads
-use Rattle.reader.proofs.slots32.zero32.Reads as zero32-reads
 use mathlib.Core.Path.{_≡_, refl, sym, ap, _∙_}
 use lib.ListN.{length}
 use Rattle.reader.proofs.SlotLaws.{row-slots}
 use native.Mathlib.Omega.{arith}
-use native.Mathlib.Omega.{arith}
 
--- src/slots32.rt:49:5
 zero32-requires : tie.Need-zero32-requires
 zero32-requires c κs = search needs
 
--- src/slots32.rt:50:5
 put-weights32-requires : tie.Need-put-weights32-requires
 put-weights32-requires c κs = search needs
 
--- src/slots32.rt:43:1
 same-length : tie.Need-same-length
 same-length c = search needs
 
--- src/slots32.rt:43:1
 returns : tie.Need-returns
 returns c =
     let a = c .before .before .before .before .before .before .before in

@@ -1,8 +1,6 @@
 -- `zero32`: after k turns the first k slots are 0. Assumes nothing.
 use Rattle.reader.proofs.slots32.zero32.Statement.{statement}
 use Rattle.reader.proofs.slots32.zero32.Tie as tie
-use Rattle.reader.proofs.slots32.zero32.Reads as reads
-use Rattle.reader.proofs.slots32.zero32.Lts as lts
 use mathlib.Core.Path.{_≡_, refl, sym, ap, _∙_}
 use Prim.Native.Nat.{_≤_, _-_}
 use lib.ListN.{length}
@@ -10,7 +8,6 @@ use Rattle.lists.proofs.TabLaws.{Written, written-none, written-more, front-who
 use Rattle.sheet_scan.specs.Whole.{noWeight}
 use native.Mathlib.Omega.{arith}
 use borrow.Author.Needs.{needs}
-use native.Mathlib.Omega.{arith}
 
 abbrev Inv-loop : tie.InvT-loop
 Inv-loop out₀ k₀ out k = (k ≤ length out₀) × Written k noWeight out₀ out
@@ -18,35 +15,27 @@ Inv-loop out₀ k₀ out k = (k ≤ length out₀) × Written k noWeight out₀ 
 abbrev μ-loop : tie.MeasureT-loop
 μ-loop out₀ k₀ out k = length out₀ - k
 
--- src/slots32.rt:18:5
 loop-holds : tie.Need-loop-holds Inv-loop μ-loop
 loop-holds c = (omega arith, written-none)
 
--- src/slots32.rt:19:9
 mul-out : tie.Need-mul-out Inv-loop μ-loop
 mul-out c = search needs
 
--- src/slots32.rt:19:9
 slice-set-of-out : tie.Need-slice-set-of-out Inv-loop μ-loop
 slice-set-of-out c = search needs
 
--- src/slots32.rt:20:9
 add-k : tie.Need-add-k Inv-loop μ-loop
 add-k c = search needs
 
--- src/slots32.rt:18:5
 loop-less : tie.Need-loop-less Inv-loop μ-loop
 loop-less c = search needs
 
--- src/slots32.rt:18:5
 loop-again : tie.Need-loop-again Inv-loop μ-loop
 loop-again c = (search needs, written-more (c .before .loop .inv .1) (search needs) refl)
 
--- src/slots32.rt:14:1
 same-length : tie.Need-same-length Inv-loop μ-loop
 same-length c = c .before .loop .inv .1 .long
 
--- src/slots32.rt:14:1
 returns : tie.Need-returns Inv-loop μ-loop
 returns c =
     let old = c .before .before .args .out .now in

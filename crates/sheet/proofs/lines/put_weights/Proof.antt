@@ -8,8 +8,9 @@ use mir.Syntax.{w64}
 use borrow.Author.Needs.{needs}
 use Rattle.text.specs.Text.{joined}
 use Rattle.text.proofs.TextLaws.{Laid, laid-none, laid-piece, laid-long}
-use Rattle.sheet.specs.Text.{lent, itemAt, weightsText}
-use Rattle.sheet.proofs.SheetLaws.{lent-long}
+use Rattle.windows.specs.Set.{lent}
+use Rattle.excesses.proofs.SumLaws.{lent-long}
+use Rattle.sheet.specs.Text.{itemAt, listText}
 use Rattle.sheet.proofs.lines.put_weights.Statement.{statement}
 use Rattle.sheet.proofs.lines.put_weights.Tie as tie
 
@@ -45,14 +46,14 @@ loop-again c =
     let at = c .before .before .before .before .before .before in
     let a = at .before .before .args in
     let put = c .before .before .put-item .ensures in
-    let read = toZ-ofZ {w = w64} (record { sfits = c .before .before .before .before .weight-at .ok }) ∙ c .before .before .before .before .weight-at .ensures in
+    let read = toZ-ofZ {w = w64} (record { sfits = c .before .before .before .before .weight-at .ok }) ∙ c .before .before .before .before .weight-at .ensures .0 in
     (search needs, laid-piece (itemAt (lent (a .wide) (a .short .now) (a .long .now)) (a .from)) (at .loop .j) (at .loop .inv .1) (put .0 ∙ rw read) (put .1 ∙ rw read))
 
 same-length : tie.Need-same-length Inv-loop μ-loop
 same-length c = laid-long (c .before .loop .inv .1)
 
 returns : tie.Need-returns Inv-loop μ-loop
-unfolding weightsText
+unfolding listText
 returns c =
     let all : c .before .loop .j ≡ c .before .before .before .args .size = omega arith in
     rw (← all) (c .before .loop .inv .1 .place, c .before .loop .inv .1 .is)

@@ -11,8 +11,10 @@ use borrow.Author.Needs.{needs}
 use Rattle.text.specs.Text.{joined}
 use Rattle.lists.proofs.TabLaws.{row-end, row-next}
 use Rattle.text.proofs.TextLaws.{Laid, laid-none, laid-long}
-use Rattle.sheet.specs.Text.{lent, windowAt, windowsText}
-use Rattle.sheet.proofs.SheetLaws.{lent-long, line-more}
+use Rattle.windows.specs.Set.{lent}
+use Rattle.excesses.proofs.SumLaws.{lent-long}
+use Rattle.sheet.specs.Text.{windowAt, windowsText}
+use Rattle.sheet.proofs.SheetLaws.{line-more}
 use Rattle.sheet.proofs.lines.put_windows.Statement.{statement}
 use Rattle.sheet.proofs.lines.put_windows.Tie as tie
 

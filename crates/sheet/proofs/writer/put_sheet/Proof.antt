@@ -1,9 +1,8 @@
--- `writer::put_sheet` meets its contract: the head, then the windows' lines, are the sheet (`whole`). Assumes nothing.
+-- `writer::put_sheet` meets its contract: the head, then the windows' lines, then the excesses, are the sheet (`whole`). Assumes nothing.
 use lib.ListN.{length}
 use borrow.Author.Needs.{needs}
-use Rattle.windows.specs.Set.{layoutOf, setOf, storedOf}
+use Rattle.windows.specs.Set.{layoutOf, setOf, storedOf, lent}
 use Rattle.windows.proofs.Fits.{fits-most}
-use Rattle.sheet.specs.Text.{lent}
 use Rattle.sheet.proofs.SheetLaws.{whole}
 use Rattle.sheet.proofs.writer.put_sheet.Statement.{statement}
 use Rattle.sheet.proofs.writer.put_sheet.Tie as tie
@@ -23,17 +22,20 @@ put-windows-requires c κs =
     let a = start .args in
     fits-most (layoutOf (a .lines) (a .window-size) (a .starts .now) (a .sizes .now)) (length (lent (a .wide) (a .short .now) (a .long .now))) (start .pre)
 
+put-excesses-requires : tie.Need-put-excesses-requires
+put-excesses-requires c κs = search needs
+
 same-length : tie.Need-same-length
 same-length c = search needs
 
 returns : tie.Need-returns
 returns c =
-    let start = c .before .before .before .before .before .before .before .before .before .before .before .before in
+    let start = c .before .before .before .before .before .before .before .before .before .before .before .before .before .before .before .before in
     let a = start .args in
-    let last = start .good .1 .1 .1 .1 .1 .1 .1 .1 .1 .1 .0 in
-    let head = c .before .before .before .before .before .before .put-head .ensures in
-    let put = c .before .before .put-windows .ensures in
-    whole (a .kind) (a .store) (storedOf (setOf (layoutOf (a .lines) (a .window-size) (a .starts .now) (a .sizes .now)) (lent (a .wide) (a .short .now) (a .long .now))) (a .precision)) (a .out .now) (search needs) (head .0) (head .1) (put .0) (put .1)
+    let head = c .before .before .before .before .before .before .before .before .before .before .put-head .ensures in
+    let put = c .before .before .before .before .before .before .put-windows .ensures in
+    let last = c .before .before .put-excesses .ensures in
+    whole (a .kind) (a .store) (storedOf (setOf (layoutOf (a .lines) (a .window-size) (a .starts .now) (a .sizes .now)) (lent (a .wide) (a .short .now) (a .long .now))) (a .precision) (a .excesses .now)) (a .out .now) (search needs) (head .0) (head .1) (put .0) (put .1) (last .0) (last .1)
 
 pub put-sheet-spec : {M : Type 1} → statement M
-put-sheet-spec = tie.close (tie.spec cast-put-head add-put-head put-head-requires put-windows-requires same-length returns)
+put-sheet-spec = tie.close (tie.spec cast-put-head add-put-head put-head-requires put-windows-requires put-excesses-requires same-length returns)

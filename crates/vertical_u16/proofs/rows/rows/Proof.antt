@@ -1,29 +1,24 @@
--- After i windows each of their rows stands in its place; `WindowThere` says that all of the next one's indices are there. Assumes nothing.
-use mathlib.Core.Path.{_≡_, refl, sym, ap, _∙_}
-use Prim.Native.Nat.{ℕ, _+_, _-_, _*_, _≤_, _<_}
-use native.Mathlib.Nat.{zero-mul}
-use native.Mathlib.Numerals.{add-one}
+-- After i windows each of their rows stands in its place, by the laws that both passes over integers share; `WindowThere` says that all of the next one's indices are
+-- there. Assumes nothing.
+use Prim.Native.Nat.{_-_, _<_}
 use native.Mathlib.Omega.{arith}
 use borrow.Author.Needs.{needs}
-use lib.ListN.{length, getD}
-use Rattle.lists.specs.Tab.{tab, front, grid}
-use Rattle.lists.proofs.StoreLaws.{part-size}
-use Rattle.lists.proofs.TabLaws.{Written, written-none, written-row, row-next, front-whole}
-use Rattle.vertical.specs.Column.{windowValue}
-use Rattle.vertical.proofs.Values.{row-is}
+use lib.ListN.{length}
 use Rattle.vertical.proofs.Turns.{WindowThere, window-there}
+use Rattle.vertical.proofs.RowTurns.{RowsDone, rows-none, rows-all, turn-few, turn-lines, turn-low, turn}
 use Rattle.vertical_u16.proofs.rows.rows.Statement.{statement}
 use Rattle.vertical_u16.proofs.rows.rows.Tie as tie
 
 abbrev Inv-loop : tie.InvT-loop
-Inv-loop src row first count weights starts sizes window p out₀ i₀ o₀ out i o =
-    (i ≤ length starts) × (o ≡ i * count) × Written o (grid count (windowValue 65535 src row first starts sizes window weights p)) out₀ out
+Inv-loop src row first count weights starts sizes window p out₀ i₀ o₀ out i o = RowsDone 65535 src row first count starts sizes window weights p out₀ i o out
 
 abbrev μ-loop : tie.MeasureT-loop
 μ-loop src row first count weights starts sizes window p out₀ i₀ o₀ out i o = length starts - i
 
 loop-holds : tie.Need-loop-holds Inv-loop μ-loop
-loop-holds c = (omega arith, rw zero-mul, written-none)
+loop-holds c =
+    let a = c .before .before .before .before .args in
+    rows-none 65535 (a .src .now) (a .row) (a .first) (a .count) (a .starts .now) (a .sizes .now) (a .window) (a .weights .now) (a .p) (a .out .now)
 
 -- what the lists' facts give at the window of a turn
 at : (c : tie.At-loop Inv-loop μ-loop) → c .loop .i < length (c .before .before .before .before .before .args .starts .now) → let a = c .before .before .before .before .before .args in WindowThere (length (a .src .now)) (a .row) (a .first) (a .count) (a .starts .now) (a .sizes .now) (a .window) (length (a .weights .now)) (length (a .out .now)) (c .loop .i)
@@ -92,20 +87,11 @@ fill-requires : tie.Need-fill-requires Inv-loop μ-loop
 fill-requires c κs =
     let l = c .before .before .before .before .before .before .before in
     let b = l .before .before .before .before .before in
-    let t = at l (c .before .before .before .before .before .before .loop-test .taken) in
-    let e = c .before .before .wide2 .ensures in
-    let z = c .before .before .before .before .wide .ensures in
-    let lw = part-size (b .args .weights .now) (l .loop .i * b .args .window) (c .before .before .before .before .wide .result) (omega (arith, t .weights)) in
-    let lo = part-size (l .loop .out) (l .loop .o) (b .args .count) (omega (arith, t .outputs, l .loop .inv .1, l .loop .inv .2 .long)) in (
-      b .pre .0,
-      (
-        b .pre .1 .narrow,
-        (
-          omega (arith, lw, z, t .few),
-          ((λ k h. rw e (omega (arith, lo, t .lines k (omega (arith, lw, z))))), rw e (omega (arith, lo, t .first-line, t .columns))),
-        ),
-      ),
-    )
+    let a = b .args in
+    let h = c .before .before .before .before .before .before .loop-test .taken in
+    let z = c .before .before .before .before .wide in
+    let s = c .before .before .wide2 in
+    (b .pre .0, (b .pre .1 .narrow, (turn-few 65535 (a .src .now) (a .row) (a .first) (a .count) (a .starts .now) (a .sizes .now) (a .window) (a .weights .now) (a .p) (a .out .now) (b .pre .1) (l .loop .i) (l .loop .o) (l .loop .out) (l .loop .inv) h (z .result) (s .result) (z .ensures) (s .ensures), (turn-lines 65535 (a .src .now) (a .row) (a .first) (a .count) (a .starts .now) (a .sizes .now) (a .window) (a .weights .now) (a .p) (a .out .now) (b .pre .1) (l .loop .i) (l .loop .o) (l .loop .out) (l .loop .inv) h (z .result) (s .result) (z .ensures) (s .ensures), turn-low 65535 (a .src .now) (a .row) (a .first) (a .count) (a .starts .now) (a .sizes .now) (a .window) (a .weights .now) (a .p) (a .out .now) (b .pre .1) (l .loop .i) (l .loop .o) (l .loop .out) (l .loop .inv) h (z .result) (s .result) (z .ensures) (s .ensures)))))
 
 add-i : tie.Need-add-i Inv-loop μ-loop
 add-i c = omega arith
@@ -118,18 +104,9 @@ loop-again c =
     let l = c .before .before .before .before .before .before .before .before .before .before in
     let b = l .before .before .before .before .before in
     let a = b .args in
-    let t = at l (c .before .before .before .before .before .before .before .before .before .loop-test .taken) in
-    let e = c .before .before .before .before .before .wide2 .ensures in
-    let z = c .before .before .before .before .before .before .before .wide .ensures in
-    let d : l .loop .i * a .window + c .before .before .before .before .before .before .before .wide .result - l .loop .i * a .window ≡ getD (a .sizes .now) (l .loop .i) 0 = omega (arith, z) in
-    let lw = part-size (a .weights .now) (l .loop .i * a .window) (c .before .before .before .before .before .before .before .wide .result) (omega (arith, t .weights)) in
-    let lo = part-size (l .loop .out) (l .loop .o) (a .count) (omega (arith, t .outputs, l .loop .inv .1, l .loop .inv .2 .long)) in (
-      rw (add-one (l .loop .i)) (c .before .before .before .before .before .before .before .before .before .loop-test .taken),
-      row-next (l .loop .o) (l .loop .i) (a .count) (l .loop .inv .1),
-      written-row (l .loop .i) (a .count) (l .loop .o) (l .loop .o + a .count - l .loop .o) (windowValue 65535 (a .src .now) (a .row) (a .first) (a .starts .now) (a .sizes .now) (a .window) (a .weights .now) (a .p)) (l .loop .inv .2) (l .loop .inv .1) (omega arith)
-          (omega (arith, t .outputs, l .loop .inv .1))
-          (row-is 65535 (a .p) (a .row) (a .first) (a .count) (a .weights .now) (a .src .now) (l .loop .i * a .window) (getD (a .sizes .now) (l .loop .i) 0) (getD (a .starts .now) (l .loop .i) 0) lo d (lw ∙ z) e (c .before .before .fill .ensures)),
-    )
+    let z = c .before .before .before .before .before .before .before .wide in
+    let s = c .before .before .before .before .before .wide2 in
+    turn 65535 (a .src .now) (a .row) (a .first) (a .count) (a .starts .now) (a .sizes .now) (a .window) (a .weights .now) (a .p) (a .out .now) (b .pre .1) (l .loop .i) (l .loop .o) (l .loop .out) (l .loop .inv) (c .before .before .before .before .before .before .before .before .before .loop-test .taken) (z .result) (s .result) (z .ensures) (s .ensures) (c .before .before .fill .ensures)
 
 same-length : tie.Need-same-length Inv-loop μ-loop
 same-length c = search needs
@@ -139,12 +116,7 @@ returns c =
     let l = c .before in
     let b = l .before .before .before .before .before in
     let a = b .args in
-    let cells = grid (a .count) (windowValue 65535 (a .src .now) (a .row) (a .first) (a .starts .now) (a .sizes .now) (a .window) (a .weights .now) (a .p)) in
-    let last : l .loop .i ≡ length (a .starts .now) = omega arith in
-    l .loop .inv .2 .is
-    ∙ ap (λ (n : ℕ). front n cells (a .out .now)) (l .loop .inv .1 ∙ ap (λ (i : ℕ). i * a .count) last ∙ sym (b .pre .1 .rooms))
-    ∙ front-whole cells (a .out .now)
-    ∙ ap (λ (n : ℕ). tab 0 n cells) (b .pre .1 .rooms)
+    rows-all 65535 (a .src .now) (a .row) (a .first) (a .count) (a .starts .now) (a .sizes .now) (a .window) (a .weights .now) (a .p) (a .out .now) (b .pre .1) (l .loop .i) (l .loop .o) (l .loop .out) (l .loop .inv) (omega arith)
 
 pub rows-spec : {M : Type 1} → statement M
 rows-spec =

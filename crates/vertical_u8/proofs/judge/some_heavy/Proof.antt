@@ -1,6 +1,7 @@
 -- After i turns `bad` says whether one of the first i windows is too heavy; a turn more is one step of `any`. Assumes nothing.
 use mathlib.Core.Path.{_≡_, refl, _∙_}
 use Prim.Native.Nat.{ℕ, _-_, _≤_, _<_, _+_, _*_}
+use native.Mathlib.Nat.{mul-le-mul}
 use native.Mathlib.Numerals.{add-one}
 use native.Mathlib.Omega.{arith}
 use borrow.Author.Needs.{needs}
@@ -25,8 +26,12 @@ loop-holds c = (omega arith, refl)
 there : (c : tie.At-loop Inv-loop μ-loop) → c .loop .i < length (c .before .before .args .sizes .now) → let a = c .before .before .args in c .loop .i * a .window + getD (a .sizes .now) (c .loop .i) 0 ≤ length (a .weights .now)
 there c h = c .before .before .pre .1 .there (c .loop .i) h
 
+-- and few slots stand before them
+low : (c : tie.At-loop Inv-loop μ-loop) → c .loop .i < length (c .before .before .args .sizes .now) → c .loop .i * c .before .before .args .window ≤ 8192 * 32769
+low c h = let b = c .before .before in let i : c .loop .i ≤ 8192 = omega (arith, b .pre .1 .many) in mul-le-mul i (b .pre .1 .wide)
+
 mul-a : tie.Need-mul-a Inv-loop μ-loop
-mul-a c = omega (arith, there (c .before) (c .loop-test .taken), c .before .before .before .pre .1 .small)
+mul-a c = omega (arith, low (c .before) (c .loop-test .taken))
 
 mul-index : tie.Need-mul-index Inv-loop μ-loop
 mul-index c = omega arith
@@ -38,10 +43,13 @@ index-requires : tie.Need-index-requires Inv-loop μ-loop
 index-requires c κs = tt
 
 add-e : tie.Need-add-e Inv-loop μ-loop
-add-e c = rw (c .index .ensures) (omega (arith, there (c .before .before .before) (c .before .before .loop-test .taken), c .before .before .before .before .before .pre .1 .small))
+add-e c =
+    let l = c .before .before .before in
+    let h = c .before .before .loop-test .taken in
+    rw (c .index .ensures) (omega (arith, low l h, l .before .before .pre .1 .few (l .loop .i) h))
 
 mul-is-heavy : tie.Need-mul-is-heavy Inv-loop μ-loop
-mul-is-heavy c = omega (arith, there (c .before .before .before) (c .before .before .loop-test .taken), c .before .before .before .before .before .pre .1 .small)
+mul-is-heavy c = omega (arith, low (c .before .before .before) (c .before .before .loop-test .taken))
 
 sub-is-heavy : tie.Need-sub-is-heavy Inv-loop μ-loop
 sub-is-heavy c = omega arith

@@ -1,32 +1,25 @@
--- After i windows each of their rows stands in its place; `WindowThere` says that all of the next one's indices are there. Assumes nothing.
-use mathlib.Core.Path.{_≡_, refl, sym, ap, _∙_}
-use mathlib.Core.List.{List}
-use Prim.Native.Nat.{ℕ, _+_, _-_, _*_, _≤_, _<_}
-use native.Mathlib.Nat.{zero-mul}
-use native.Mathlib.Numerals.{add-one}
+-- After i windows each of their rows stands in its place, by the laws that both passes over integers share; `WindowThere` says that all of the next one's indices are
+-- there. Assumes nothing.
+use Prim.Native.Nat.{_-_, _<_}
 use native.Mathlib.Omega.{arith}
 use borrow.Author.Needs.{needs}
-use lib.IntN.{ℤ}
-use lib.ListN.{length, getD, take, drop}
-use Rattle.lists.specs.Tab.{tab, front, grid}
-use Rattle.lists.proofs.StoreLaws.{part-size}
-use Rattle.lists.proofs.TabLaws.{Written, written-none, written-row, row-next, front-whole}
-use Rattle.vertical.specs.Column.{windowValue}
+use lib.ListN.{length}
 use Rattle.vertical.proofs.Turns.{WindowThere, window-there}
-use Rattle.vertical.proofs.Values.{row-is}
+use Rattle.vertical.proofs.RowTurns.{RowsDone, rows-none, rows-all, slots-are, slots-size, turn-lines, turn-low, turn}
 use Rattle.vertical_u8.proofs.Slices.{slice-room}
 use Rattle.vertical_u8.proofs.rows.rows.Statement.{statement}
 use Rattle.vertical_u8.proofs.rows.rows.Tie as tie
 
 abbrev Inv-loop : tie.InvT-loop
-Inv-loop src row first count weights starts sizes window p out₀ i₀ o₀ out i o =
-    (i ≤ length starts) × (o ≡ i * count) × Written o (grid count (windowValue 255 src row first starts sizes window weights p)) out₀ out
+Inv-loop src row first count weights starts sizes window p out₀ i₀ o₀ out i o = RowsDone 255 src row first count starts sizes window weights p out₀ i o out
 
 abbrev μ-loop : tie.MeasureT-loop
 μ-loop src row first count weights starts sizes window p out₀ i₀ o₀ out i o = length starts - i
 
 loop-holds : tie.Need-loop-holds Inv-loop μ-loop
-loop-holds c = (omega arith, rw zero-mul, written-none)
+loop-holds c =
+    let a = c .before .before .before .before .args in
+    rows-none 255 (a .src .now) (a .row) (a .first) (a .count) (a .starts .now) (a .sizes .now) (a .window) (a .weights .now) (a .p) (a .out .now)
 
 -- what the lists' facts give at the window of a turn
 at : (c : tie.At-loop Inv-loop μ-loop) → c .loop .i < length (c .before .before .before .before .before .args .starts .now) → let a = c .before .before .before .before .before .args in WindowThere (length (a .src .now)) (a .row) (a .first) (a .count) (a .starts .now) (a .sizes .now) (a .window) (length (a .weights .now)) (length (a .out .now)) (c .loop .i)
@@ -92,21 +85,13 @@ fill-requires : tie.Need-fill-requires Inv-loop μ-loop
 fill-requires c κs =
     let l = c .before .before .before .before .before .before .before in
     let b = l .before .before .before .before .before in
-    let t = at l (c .before .before .before .before .before .before .loop-test .taken) in
-    let e = c .before .before .index2 .ensures in
-    let z = c .before .before .before .before .index .ensures in
-    let lw = part-size (b .args .weights .now) (l .loop .i * b .args .window) (c .before .before .before .before .index .result) (omega (arith, t .weights)) in
-    let d : l .loop .i * b .args .window + c .before .before .before .before .index .result - l .loop .i * b .args .window ≡ getD (b .args .sizes .now) (l .loop .i) 0 = omega (arith, z) in
-    let lo = part-size (l .loop .out) (l .loop .o) (b .args .count) (omega (arith, t .outputs, l .loop .inv .1, l .loop .inv .2 .long)) in (
-      b .pre .0,
-      (
-        slice-room (b .args .window) (b .args .weights .now) (b .args .sizes .now) (b .args .p) (l .loop .i) (b .pre .1 .1) (omega (arith, b .pre .1 .0 .set .pairs)) d (lw ∙ z),
-        (
-          b .pre .1 .0 .narrow,
-          ((λ k h. rw e (omega (arith, lo, t .lines k (omega (arith, lw, z))))), rw e (omega (arith, lo, t .first-line, t .columns))),
-        ),
-      ),
-    )
+    let a = b .args in
+    let h = c .before .before .before .before .before .before .loop-test .taken in
+    let z = c .before .before .before .before .index in
+    let s = c .before .before .index2 in
+    let room =
+    slice-room (a .window) (a .weights .now) (a .sizes .now) (a .p) (l .loop .i) (b .pre .1 .1) (omega (arith, b .pre .1 .0 .set .pairs)) (slots-are 255 (a .src .now) (a .row) (a .first) (a .count) (a .starts .now) (a .sizes .now) (a .window) (a .weights .now) (a .p) (a .out .now) (b .pre .1 .0) (l .loop .i) (l .loop .o) (l .loop .out) (l .loop .inv) h (z .result) (s .result) (z .ensures) (s .ensures)) (slots-size 255 (a .src .now) (a .row) (a .first) (a .count) (a .starts .now) (a .sizes .now) (a .window) (a .weights .now) (a .p) (a .out .now) (b .pre .1 .0) (l .loop .i) (l .loop .o) (l .loop .out) (l .loop .inv) h (z .result) (s .result) (z .ensures) (s .ensures)) in
+    (b .pre .0, (room, (b .pre .1 .0 .narrow, (turn-lines 255 (a .src .now) (a .row) (a .first) (a .count) (a .starts .now) (a .sizes .now) (a .window) (a .weights .now) (a .p) (a .out .now) (b .pre .1 .0) (l .loop .i) (l .loop .o) (l .loop .out) (l .loop .inv) h (z .result) (s .result) (z .ensures) (s .ensures), turn-low 255 (a .src .now) (a .row) (a .first) (a .count) (a .starts .now) (a .sizes .now) (a .window) (a .weights .now) (a .p) (a .out .now) (b .pre .1 .0) (l .loop .i) (l .loop .o) (l .loop .out) (l .loop .inv) h (z .result) (s .result) (z .ensures) (s .ensures)))))
 
 add-i : tie.Need-add-i Inv-loop μ-loop
 add-i c = omega arith
@@ -119,18 +104,9 @@ loop-again c =
     let l = c .before .before .before .before .before .before .before .before .before .before in
     let b = l .before .before .before .before .before in
     let a = b .args in
-    let t = at l (c .before .before .before .before .before .before .before .before .before .loop-test .taken) in
-    let e = c .before .before .before .before .before .index2 .ensures in
-    let z = c .before .before .before .before .before .before .before .index .ensures in
-    let d : l .loop .i * a .window + c .before .before .before .before .before .before .before .index .result - l .loop .i * a .window ≡ getD (a .sizes .now) (l .loop .i) 0 = omega (arith, z) in
-    let lw = part-size (a .weights .now) (l .loop .i * a .window) (c .before .before .before .before .before .before .before .index .result) (omega (arith, t .weights)) in
-    let lo = part-size (l .loop .out) (l .loop .o) (a .count) (omega (arith, t .outputs, l .loop .inv .1, l .loop .inv .2 .long)) in (
-      rw (add-one (l .loop .i)) (c .before .before .before .before .before .before .before .before .before .loop-test .taken),
-      row-next (l .loop .o) (l .loop .i) (a .count) (l .loop .inv .1),
-      written-row (l .loop .i) (a .count) (l .loop .o) (l .loop .o + a .count - l .loop .o) (windowValue 255 (a .src .now) (a .row) (a .first) (a .starts .now) (a .sizes .now) (a .window) (a .weights .now) (a .p)) (l .loop .inv .2) (l .loop .inv .1) (omega arith)
-          (omega (arith, t .outputs, l .loop .inv .1))
-          (row-is 255 (a .p) (a .row) (a .first) (a .count) (a .weights .now) (a .src .now) (l .loop .i * a .window) (getD (a .sizes .now) (l .loop .i) 0) (getD (a .starts .now) (l .loop .i) 0) lo d (lw ∙ z) e (c .before .before .fill .ensures)),
-    )
+    let z = c .before .before .before .before .before .before .before .index in
+    let s = c .before .before .before .before .before .index2 in
+    turn 255 (a .src .now) (a .row) (a .first) (a .count) (a .starts .now) (a .sizes .now) (a .window) (a .weights .now) (a .p) (a .out .now) (b .pre .1 .0) (l .loop .i) (l .loop .o) (l .loop .out) (l .loop .inv) (c .before .before .before .before .before .before .before .before .before .loop-test .taken) (z .result) (s .result) (z .ensures) (s .ensures) (c .before .before .fill .ensures)
 
 same-length : tie.Need-same-length Inv-loop μ-loop
 same-length c = search needs
@@ -140,12 +116,7 @@ returns c =
     let l = c .before in
     let b = l .before .before .before .before .before in
     let a = b .args in
-    let cells = grid (a .count) (windowValue 255 (a .src .now) (a .row) (a .first) (a .starts .now) (a .sizes .now) (a .window) (a .weights .now) (a .p)) in
-    let last : l .loop .i ≡ length (a .starts .now) = omega arith in
-    l .loop .inv .2 .is
-    ∙ ap (λ (n : ℕ). front n cells (a .out .now)) (l .loop .inv .1 ∙ ap (λ (i : ℕ). i * a .count) last ∙ sym (b .pre .1 .0 .rooms))
-    ∙ front-whole cells (a .out .now)
-    ∙ ap (λ (n : ℕ). tab 0 n cells) (b .pre .1 .0 .rooms)
+    rows-all 255 (a .src .now) (a .row) (a .first) (a .count) (a .starts .now) (a .sizes .now) (a .window) (a .weights .now) (a .p) (a .out .now) (b .pre .1 .0) (l .loop .i) (l .loop .o) (l .loop .out) (l .loop .inv) (omega arith)
 
 pub rows-spec : {M : Type 1} → statement M
 rows-spec =

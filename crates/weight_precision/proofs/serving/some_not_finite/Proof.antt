@@ -1,0 +1,58 @@
+-- `some_not_finite`: after k turns `bad` says whether one of the first k weights is not finite. Assumes nothing.
+use Rattle.weight_precision.proofs.serving.some_not_finite.Statement.{statement}
+use Rattle.weight_precision.proofs.serving.some_not_finite.Tie as tie
+use borrow.Author.Needs.{needs}
+use native.Mathlib.Omega.{arith}
+use mathlib.Core.Path.{_≡_, refl}
+use Prim.Native.Nat.{_≤_, _-_}
+use lib.ListN.{length}
+use native.Mathlib.Numerals.{add-one}
+use Rattle.lists.specs.Tab.{any}
+use Rattle.weight_precision.specs.Weights.{notFinite}
+
+abbrev Inv-loop : tie.InvT-loop
+Inv-loop weights bad₀ k₀ bad k = (k ≤ length weights) × (bad ≡ any k (notFinite weights))
+
+abbrev μ-loop : tie.MeasureT-loop
+μ-loop weights bad₀ k₀ bad k = length weights - k
+
+loop-holds : tie.Need-loop-holds Inv-loop μ-loop
+loop-holds c = (omega arith, refl)
+
+mul-finite : tie.Need-mul-finite Inv-loop μ-loop
+mul-finite c = search needs
+
+shared-slice-read-finite : tie.Need-shared-slice-read-finite Inv-loop μ-loop
+shared-slice-read-finite c = search needs
+
+finite-requires : tie.Need-finite-requires Inv-loop μ-loop
+finite-requires c κs = search needs
+
+add-k : tie.Need-add-k Inv-loop μ-loop
+add-k c = search needs
+
+loop-less : tie.Need-loop-less Inv-loop μ-loop
+loop-less c = search needs
+
+loop-again : tie.Need-loop-again Inv-loop μ-loop
+loop-again c = (omega arith, rw (add-one, c .before .before .before .loop .inv .1, c .finite .ensures))
+
+returns : tie.Need-returns Inv-loop μ-loop
+returns c =
+    let all : c .before .loop .k ≡ length (c .before .before .before .args .weights .now) = omega arith in
+    rw (← all) (c .before .loop .inv .1)
+
+pub some-not-finite-spec : {M : Type 1} → statement M
+some-not-finite-spec =
+    tie.close
+    (tie.spec
+    Inv-loop
+    μ-loop
+    loop-holds
+    mul-finite
+    shared-slice-read-finite
+    finite-requires
+    add-k
+    loop-less
+    loop-again
+    returns)

@@ -1,0 +1,3 @@
+pub mod Precision
+pub mod Weights
+pub mod Bounds

@@ -1,0 +1,88 @@
+-- `write16`: after k turns the first k slots are written. Assumes nothing.
+use Rattle.weight_slots.proofs.slots16.write16.Statement.{statement}
+use Rattle.weight_slots.proofs.slots16.write16.Tie as tie
+use borrow.Author.Needs.{needs}
+use native.Mathlib.Omega.{arith}
+use mathlib.Core.Path.{_≡_, ap, _∙_}
+use Prim.Native.Nat.{_≤_, _-_}
+use lib.ListN.{length, getD}
+use Rattle.lists.proofs.TabLaws.{Written, written-none, written-more}
+use Rattle.lists.proofs.AnyLaws.{any-none}
+use Rattle.windows.specs.Store.{store16}
+use Rattle.weight_precision.specs.Weights.{leaves}
+use Rattle.weight_slots.specs.Slots.{slotAt}
+use mathlib.Core.Bool.{Bool, cond}
+use lib.IntN.{pos}
+use lib.Ieee.{nan}
+use mir.Facts.{toZ-ofZ}
+use Rattle.weight_precision.specs.Precision.{integer}
+
+abbrev Inv-loop : tie.InvT-loop
+Inv-loop p windowSize weights sizes out₀ k₀ out k = (k ≤ length weights) × Written k (slotAt store16 p windowSize weights sizes) out₀ out
+
+abbrev μ-loop : tie.MeasureT-loop
+μ-loop p windowSize weights sizes out₀ k₀ out k = length weights - k
+
+loop-holds : tie.Need-loop-holds Inv-loop μ-loop
+loop-holds c = (omega arith, written-none)
+
+mul-slot16 : tie.Need-mul-slot16 Inv-loop μ-loop
+mul-slot16 c = search needs
+
+shared-slice-read-slot16 : tie.Need-shared-slice-read-slot16 Inv-loop μ-loop
+shared-slice-read-slot16 c = search needs
+
+in-use-requires : tie.Need-in-use-requires Inv-loop μ-loop
+in-use-requires c κs = (c .before .before .before .before .before .pre .1 .0, omega (arith, c .before .before .before .before .before .pre .1 .1 .0))
+
+slot16-requires : tie.Need-slot16-requires Inv-loop μ-loop
+slot16-requires c κs =
+    let start = c .before .before .before .before .before .before in
+    let stays = any-none (leaves store16 (start .args .p) (start .args .window-size) (start .args .weights .now) (start .args .sizes .now)) (length (start .args .weights .now)) (start .pre .1 .1 .1 .1) (c .before .before .before .loop .k) (omega arith) in
+    (start .pre .0, rw (c .in-use .ensures) stays)
+
+mul-t12 : tie.Need-mul-t12 Inv-loop μ-loop
+mul-t12 c = search needs
+
+slice-set-from-out : tie.Need-slice-set-from-out Inv-loop μ-loop
+slice-set-from-out c = search needs
+
+add-k : tie.Need-add-k Inv-loop μ-loop
+add-k c = search needs
+
+loop-less : tie.Need-loop-less Inv-loop μ-loop
+loop-less c = search needs
+
+loop-again : tie.Need-loop-again Inv-loop μ-loop
+loop-again c =
+    let start = c .before .before .before .before .before .before .before in
+    let at = c .before .before .before .before in
+    let value = toZ-ofZ (record { sfits = c .slot16 .ok }) ∙ c .slot16 .ensures ∙ ap (λ (used : Bool). cond used (integer store16 (start .args .p) (getD (start .args .weights .now) (at .loop .k) nan)) (pos 0)) (c .before .in-use .ensures) in
+    (omega arith, written-more (at .loop .inv .1) (omega (arith, start .pre .1 .1 .1 .0)) value)
+
+same-length : tie.Need-same-length Inv-loop μ-loop
+same-length c = search needs
+
+returns : tie.Need-returns Inv-loop μ-loop
+returns c =
+    let all : c .before .loop .k ≡ length (c .before .before .before .before .args .weights .now) = omega arith in
+    rw (← all) (c .before .loop .inv .1 .is)
+
+pub write16-spec : {M : Type 1} → statement M
+write16-spec =
+    tie.close
+    (tie.spec
+    Inv-loop
+    μ-loop
+    loop-holds
+    mul-slot16
+    shared-slice-read-slot16
+    in-use-requires
+    slot16-requires
+    mul-t12
+    slice-set-from-out
+    add-k
+    loop-less
+    loop-again
+    same-length
+    returns)
