@@ -3,7 +3,7 @@ use mathlib.Core.Path.{_≡_, refl}
 use Prim.Native.Nat.{_<_}
 use native.Mathlib.Omega.{arith}
 use Rattle.refusal.specs.declared.Refusal.{Refusal}
-use Rattle.refusal.specs.declared.Refusal.the-variants.{BadSide, NotFinite, NegativeExtent, StartOutside, EndOutside, NoScale, TooFewSlots, BlankWindow, WeightOutside, DoesNotFit, NoRoom, SampleOutside, NotASheet}
+use Rattle.refusal.specs.declared.Refusal.the-variants.{BadSide, NotFinite, NegativeExtent, StartOutside, EndOutside, NoScale, TooFewSlots, BlankWindow, WeightOutside, DoesNotFit, NoRoom, SampleOutside, NotASheet, NoOffer, SharesDoNotFit, RetiredFilter}
 use Rattle.refusal.specs.Refusal.{numberOf}
 use Rattle.coefficients.specs.declared.Built.{Built}
 use Rattle.coefficients.specs.declared.Built.the-variants as built
@@ -33,6 +33,9 @@ numbered DoesNotFit = omega arith
 numbered NoRoom = omega arith
 numbered SampleOutside = omega arith
 numbered NotASheet = omega arith
+numbered NoOffer = omega arith
+numbered SharesDoNotFit = omega arith
+numbered RetiredFilter = omega arith
 
 pub passed-done : (a : Passed) → numberOfPassed a ≡ 0 → a ≡ passed.Done
 passed-done passed.Done h = refl

@@ -1,8 +1,8 @@
--- The numbers of document 01's table of answers, a line each. Cited by `number`, and by `numberOf` of every answer that holds a refusal.
+-- The numbers of document 01's table of answers and of document 02's requests, a line each. Cited by `number`, and by `numberOf` of every answer that holds a refusal.
 -- Definitions only. Assumes nothing.
 use Prim.Native.Nat.{ℕ}
 use Rattle.refusal.specs.declared.Refusal.{Refusal}
-use Rattle.refusal.specs.declared.Refusal.the-variants.{BadSide, NotFinite, NegativeExtent, StartOutside, EndOutside, NoScale, TooFewSlots, BlankWindow, WeightOutside, DoesNotFit, NoRoom, SampleOutside, NotASheet}
+use Rattle.refusal.specs.declared.Refusal.the-variants.{BadSide, NotFinite, NegativeExtent, StartOutside, EndOutside, NoScale, TooFewSlots, BlankWindow, WeightOutside, DoesNotFit, NoRoom, SampleOutside, NotASheet, NoOffer, SharesDoNotFit, RetiredFilter}
 
 abbrev pub numberOf : Refusal → ℕ
 numberOf BadSide = 1
@@ -18,3 +18,6 @@ numberOf DoesNotFit = 10
 numberOf NoRoom = 11
 numberOf SampleOutside = 12
 numberOf NotASheet = 13
+numberOf NoOffer = 14
+numberOf SharesDoNotFit = 15
+numberOf RetiredFilter = 16

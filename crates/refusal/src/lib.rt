@@ -1,4 +1,4 @@
-// `refusal`: why a call is refused, one case of `Refusal` for each number of document 01's table, in its order.
+// `refusal`: why a call is refused, one case of `Refusal` for each number of document 01's table and of document 02's requests, in their order.
 ghost use mathlib.Core.Path.{_≡_};
 ghost use Rattle.refusal.specs.Refusal.{numberOf};
 
@@ -29,9 +29,15 @@ pub enum Refusal {
     SampleOutside,
     // 13: text not of a sheet's form
     NotASheet,
+    // 14: an offer of changed weights not accepted, or none found
+    NoOffer,
+    // 15: shares that do not fit into the store
+    SharesDoNotFit,
+    // 16: a filter that no new set is built with
+    RetiredFilter,
 }
 
-// The number of document 01's table.
+// The number of the table.
 pub fn number(refusal: Refusal) -> u32
     ensures answer { λ r. ⌜ r ≡ numberOf refusal ⌝ }
 {
@@ -49,5 +55,8 @@ pub fn number(refusal: Refusal) -> u32
         Refusal::NoRoom => 11,
         Refusal::SampleOutside => 12,
         Refusal::NotASheet => 13,
+        Refusal::NoOffer => 14,
+        Refusal::SharesDoNotFit => 15,
+        Refusal::RetiredFilter => 16,
     }
 }
