@@ -40,6 +40,7 @@ enum {
     MIRROR_NO_ROOM = 11,         /* sheet room too small */
     MIRROR_SAMPLE_OUTSIDE = 12,  /* f32 pass: a sample in use or weight in use not finite, or a weight above 2^64 in size */
     MIRROR_NOT_A_SHEET = 13,     /* a text that is not of a sheet's form; the byte where its longest acceptable beginning ends is given */
+    MIRROR_NO_OFFER = 14,        /* an offer of weights that is not accepted, or of which there is none; of the latter the first line is given */
     MIRROR_BAD_CODE = 100        /* a filter above 3, an axis above 1 or a flag above 1; judged before anything else, nothing is written but
                                     the zeros beside the answer. It exists at this interface only, where a choice has become a number. */
 };
@@ -148,6 +149,29 @@ uint32_t mirror_read_sheet16(const uint8_t *text, size_t text_len, int16_t *weig
                              uint32_t *starts, size_t starts_len, uint32_t *sizes, size_t sizes_len,
                              int64_t *excesses, size_t excesses_len, uint32_t *filter, uint32_t *lines, uint32_t *windows,
                              uint32_t *window, uint32_t *store, uint32_t *precision, uint64_t *byte);
+
+/* Offered repairs of a stored set (docs/REPAIRS.md). The judges take an offer of changed weights for it: accepted exactly where window size,
+ * precision, starts and sizes are the stored ones, every weight in use is within 1 of the stored one, and every window's offered weights in
+ * use total 2^precision. The offered weights in use then replace the stored ones and every excess becomes 0; idle slots of the offer are not
+ * looked at, and stored ones are kept. 0, 1, 10, 14; 1 and 10 as for a sheet, of the stored set; 14 of the offer, lists of other lengths
+ * included. Refused, nothing is written. */
+uint32_t mirror_accept16(uint32_t lines, uint32_t window, uint32_t precision, int16_t *weights, size_t weights_len,
+                         const uint32_t *starts, size_t starts_len, const uint32_t *sizes, size_t sizes_len, int64_t *excesses, size_t excesses_len,
+                         uint32_t offered_window, uint32_t offered_precision, const uint32_t *offered_starts, size_t offered_starts_len,
+                         const uint32_t *offered_sizes, size_t offered_sizes_len, const int16_t *offered_weights, size_t offered_weights_len);
+uint32_t mirror_accept32(uint32_t lines, uint32_t window, uint32_t precision, int32_t *weights, size_t weights_len,
+                         const uint32_t *starts, size_t starts_len, const uint32_t *sizes, size_t sizes_len, int64_t *excesses, size_t excesses_len,
+                         uint32_t offered_window, uint32_t offered_precision, const uint32_t *offered_starts, size_t offered_starts_len,
+                         const uint32_t *offered_sizes, size_t offered_sizes_len, const int32_t *offered_weights, size_t offered_weights_len);
+/* An offer of our own for a stored set, in the first windows x window size slots of out: in each window as many weights as its excess
+ * moved by 1, all the same way, the first in line order that stay inside their type; 0 in idle slots. Where a window has no offer, *line is the
+ * first such display line; else it is 0. 0, 1, 7, 10, 14; No. 7: out_len below windows x window size. */
+uint32_t mirror_offer16(uint32_t lines, uint32_t window, uint32_t precision, const int16_t *weights, size_t weights_len,
+                        const uint32_t *starts, size_t starts_len, const uint32_t *sizes, size_t sizes_len,
+                        const int64_t *excesses, size_t excesses_len, int16_t *out, size_t out_len, uint32_t *line);
+uint32_t mirror_offer32(uint32_t lines, uint32_t window, uint32_t precision, const int32_t *weights, size_t weights_len,
+                        const uint32_t *starts, size_t starts_len, const uint32_t *sizes, size_t sizes_len,
+                        const int64_t *excesses, size_t excesses_len, int32_t *out, size_t out_len, uint32_t *line);
 
 #ifdef __cplusplus
 }

@@ -10,6 +10,7 @@ mod passes;
 pub mod raw;
 mod readers;
 mod refusal;
+mod repairs;
 mod sets;
 mod sheets;
 
@@ -20,6 +21,7 @@ pub use numbers::{abs, ceil, clip8, filter, floor, narrow, round, widen, Filter,
 pub use passes::{vertical_f32, vertical_u16, vertical_u8, Frame};
 pub use readers::{read_sheet, read_sheet16, Head};
 pub use refusal::Refusal;
+pub use repairs::{accept16, accept32, offer16, offer32, Offer, Repairable};
 pub use sets::{normalize16, normalize32, weights, Axis, Request, Set, Stored};
 pub use sheets::{sheet16, sheet32};
 

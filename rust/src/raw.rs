@@ -80,4 +80,23 @@ extern "C" {
         text: *const u8, text_len: usize, weights: *mut i16, weights_len: usize, starts: *mut u32, starts_len: usize, sizes: *mut u32, sizes_len: usize,
         excesses: *mut i64, excesses_len: usize, filter: *mut u32, lines: *mut u32, windows: *mut u32, window: *mut u32, store: *mut u32, precision: *mut u32, byte: *mut u64,
     ) -> u32;
+
+    pub fn mirror_accept16(
+        lines: u32, window: u32, precision: u32, weights: *mut i16, weights_len: usize, starts: *const u32, starts_len: usize,
+        sizes: *const u32, sizes_len: usize, excesses: *mut i64, excesses_len: usize, offered_window: u32, offered_precision: u32,
+        offered_starts: *const u32, offered_starts_len: usize, offered_sizes: *const u32, offered_sizes_len: usize, offered_weights: *const i16, offered_weights_len: usize,
+    ) -> u32;
+    pub fn mirror_accept32(
+        lines: u32, window: u32, precision: u32, weights: *mut i32, weights_len: usize, starts: *const u32, starts_len: usize,
+        sizes: *const u32, sizes_len: usize, excesses: *mut i64, excesses_len: usize, offered_window: u32, offered_precision: u32,
+        offered_starts: *const u32, offered_starts_len: usize, offered_sizes: *const u32, offered_sizes_len: usize, offered_weights: *const i32, offered_weights_len: usize,
+    ) -> u32;
+    pub fn mirror_offer16(
+        lines: u32, window: u32, precision: u32, weights: *const i16, weights_len: usize, starts: *const u32, starts_len: usize,
+        sizes: *const u32, sizes_len: usize, excesses: *const i64, excesses_len: usize, out: *mut i16, out_len: usize, line: *mut u32,
+    ) -> u32;
+    pub fn mirror_offer32(
+        lines: u32, window: u32, precision: u32, weights: *const i32, weights_len: usize, starts: *const u32, starts_len: usize,
+        sizes: *const u32, sizes_len: usize, excesses: *const i64, excesses_len: usize, out: *mut i32, out_len: usize, line: *mut u32,
+    ) -> u32;
 }

@@ -30,6 +30,10 @@ pub enum Refusal {
     SampleOutside,
     /// 13: a text that is not of a sheet's form; how many of its bytes begin some sheet
     NotASheet(u64),
+    /// 14: an offer of weights that is not accepted
+    NotAccepted,
+    /// 14: no offer of our own; the first display line that has none
+    NoOffer(DisplayLine),
     /// 100: a code that names nothing; enums of this crate have no such code
     BadCode,
 }
@@ -56,6 +60,7 @@ pub(crate) fn judged_at(number: u32, line: u32, byte: u64) -> Result<(), Refusal
         11 => Refusal::NoRoom,
         12 => Refusal::SampleOutside,
         13 => Refusal::NotASheet(byte),
+        14 => Refusal::NoOffer(DisplayLine(line)),
         _ => Refusal::BadCode,
     })
 }
@@ -77,6 +82,7 @@ impl Refusal {
             Refusal::NoRoom => 11,
             Refusal::SampleOutside => 12,
             Refusal::NotASheet(_) => 13,
+            Refusal::NotAccepted | Refusal::NoOffer(_) => 14,
             Refusal::BadCode => 100,
         }
     }

@@ -234,3 +234,45 @@ fn a_text_that_is_no_sheet_is_refused_at_its_byte() {
     assert_eq!(read(b"kind=box\nin=4\nout=3\nwindow=3"), Err(Refusal::NotASheet(28)));
     assert_eq!(read_sheet16(SHEET, &mut [7; 6], &mut starts, &mut sizes, &mut excesses).map_err(Refusal::number), Err(13));
 }
+
+#[test]
+fn offers_are_made_judged_and_taken_over() {
+    let (starts, sizes, third) = ([CameraLine(0)], [3], [21845; 3]);
+    let mut own = [7; 4];
+    let thirds = stored(Set { lines: 3, window: 3, weights: &third, starts: &starts, sizes: &sizes }, 16, &[-1]);
+    assert_eq!(offer16(&thirds, &mut own[..2]), Err(Refusal::TooFewSlots));
+    assert_eq!(offer16(&stored(thirds.set, 16, &[0]), &mut own), Err(Refusal::DoesNotFit));
+    assert_eq!(own, [7; 4]);
+    assert_eq!((offer16(&thirds, &mut own), own), (Ok(()), [21846, 21845, 21845, 7]));
+
+    let (mut weights, mut excesses) = (third, [-1]);
+    let mut set = Repairable { lines: 3, window: 3, precision: 16, weights: &mut weights, starts: &starts, sizes: &sizes, excesses: &mut excesses };
+    let offer = |weights, precision| Offer { window: 3, precision, starts: &starts, sizes: &sizes, weights };
+    let wrong = [([21847, 21844, 21845], 16), (third, 16), ([21846, 21845, 21845], 15)];
+    for (weights, precision) in &wrong {
+        assert_eq!(accept16(&mut set, &offer(weights, *precision)), Err(Refusal::NotAccepted));
+    }
+    assert_eq!(accept16(&mut set, &offer(&own[..2], 16)).map_err(Refusal::number), Err(14));
+    assert_eq!((set.stored().set.weights, set.stored().excesses), (&third[..], &[-1][..]));
+    assert_eq!(accept16(&mut set, &offer(&own[..3], 16)), Ok(()));
+    assert_eq!((weights, excesses), ([21846, 21845, 21845], [0]));
+    let (mut grey, wide) = ([7], weights.map(i32::from));
+    let repaired = stored(Set { lines: 3, window: 3, weights: &wide, starts: &starts, sizes: &sizes }, 16, &excesses);
+    assert_eq!((vertical_u16(&Frame { samples: &[65535; 3], row: 1, first: 0, count: 1 }, &repaired, &mut grey), grey), (Ok(()), [65535]));
+}
+
+#[test]
+fn the_first_line_without_an_offer_is_told() {
+    let (weights, starts, sizes) = ([8, 9, 9, 10], [CameraLine(0); 2], [2, 2]);
+    let mut out = [7; 4];
+    let set = |weights| Set { lines: 2, window: 2, weights, starts: &starts, sizes: &sizes };
+    assert_eq!((offer32(&stored(set(&weights), 4, &[1, 3]), &mut out), out), (Err(Refusal::NoOffer(DisplayLine(1))), [7; 4]));
+    assert_eq!((offer32(&stored(set(&[8, 9, 9, 9]), 4, &[1, 2]), &mut out), out), (Ok(()), [7, 9, 8, 8]));
+    let (mut weights, mut excesses) = ([8, 9, 9, 9], [1, 2]);
+    let mut held = Repairable { lines: 2, window: 2, precision: 4, weights: &mut weights, starts: &starts, sizes: &sizes, excesses: &mut excesses };
+    assert_eq!(accept32(&mut held, &Offer { window: 2, precision: 4, starts: &starts, sizes: &sizes, weights: &[9, 7, 8, 8] }), Err(Refusal::NotAccepted));
+    assert_eq!(accept32(&mut held, &Offer { window: 2, precision: 4, starts: &starts, sizes: &sizes, weights: &[8, 8, 8, 8] }), Ok(()));
+    held.lines = 0;
+    assert_eq!(accept32(&mut held, &Offer { window: 2, precision: 4, starts: &starts, sizes: &sizes, weights: &[8, 8, 8, 8] }), Err(Refusal::BadSide));
+    assert_eq!((weights, excesses), ([8, 8, 8, 8], [0, 0]));
+}

@@ -71,6 +71,7 @@ int main(void)
     check_alpha();
     check_sheets();
     check_readers();
+    check_repairs();
     printf("checks=%d failures=%d\n", checks, failures);
     return failures != 0;
 }

@@ -45,4 +45,5 @@ void check_passes(void);
 void check_alpha(void);
 void check_sheets(void);
 void check_readers(void);
+void check_repairs(void);
 #endif

@@ -445,6 +445,61 @@ static int read_sheet(char **w)
     return 1;
 }
 
+/* The stored set of words 2 to 8 after the store in word 1; `kept` where the call may not change weights and excesses. */
+struct stored {
+    int wide;
+    uint32_t n[3];
+    struct list *ws, *starts, *sizes, *over;
+};
+
+static int read_stored(char **w, struct stored *s, int kept)
+{
+    s->wide = strcmp(w[1], "32") == 0;
+    OR_BAD(s->wide || strcmp(w[1], "16") == 0);
+    for (int i = 0; i < 3; i++)
+        OR_BAD(u32_of(w[i + 2], &s->n[i]));
+    s->ws = read_list(s->wide ? 'i' : 'h', w[5], kept);
+    s->starts = s->ws ? read_list('u', w[6], 1) : NULL;
+    s->sizes = s->starts ? read_list('u', w[7], 1) : NULL;
+    s->over = s->sizes ? read_list('q', w[8], kept) : NULL;
+    return s->over != NULL;
+}
+
+#define STORED(s) (s).n[0], (s).n[1], (s).n[2], at((s).ws), (s).ws->count, at((s).starts), (s).starts->count, at((s).sizes), (s).sizes->count, at((s).over), (s).over->count
+
+static int accept(char **w)
+{
+    struct stored s;
+    uint32_t window, precision, no;
+    OR_BAD(read_stored(w, &s, 0) && u32_of(w[9], &window) && u32_of(w[10], &precision));
+    struct list *starts = read_list('u', w[11], 1), *sizes = starts ? read_list('u', w[12], 1) : NULL, *ws = sizes ? read_list(s.wide ? 'i' : 'h', w[13], 1) : NULL;
+    OR_BAD(ws);
+    if (s.wide)
+        no = mirror_accept32(STORED(s), window, precision, at(starts), starts->count, at(sizes), sizes->count, at(ws), ws->count);
+    else
+        no = mirror_accept16(STORED(s), window, precision, at(starts), starts->count, at(sizes), sizes->count, at(ws), ws->count);
+    printf("%" PRIu32, no);
+    show(s.wide ? 'i' : 'h', s.ws);
+    show('q', s.over);
+    return 1;
+}
+
+static int offer(char **w)
+{
+    struct stored s;
+    uint32_t line = 77, no;
+    OR_BAD(read_stored(w, &s, 1));
+    struct list *out = lend(s.wide ? 'i' : 'h', w[9]);
+    OR_BAD(out);
+    if (s.wide)
+        no = mirror_offer32(STORED(s), at(out), out->count, &line);
+    else
+        no = mirror_offer16(STORED(s), at(out), out->count, &line);
+    printf("%" PRIu32 " %" PRIu32, no, line);
+    show(s.wide ? 'i' : 'h', out);
+    return 1;
+}
+
 static int one_of(const char *w, const char *names)
 {
     size_t n = strlen(w);
@@ -485,6 +540,10 @@ static int answer(char **w, int words)
         return sheet(w);
     if (words == 6 && one_of(w[0], "read read16"))
         return read_sheet(w);
+    if (words == 14 && strcmp(w[0], "accept") == 0)
+        return accept(w);
+    if (words == 10 && strcmp(w[0], "offer") == 0)
+        return offer(w);
     return 0;
 }
 

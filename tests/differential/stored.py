@@ -5,7 +5,7 @@ usage: stored.py ORACLE TESTFLOAT FOLDER [group ..]        (no group: all of the
 
 Writes FOLDER/GROUP.in and FOLDER/GROUP.out. TESTFLOAT is the file of TestFloat's cases (`n X floor ceil round narrow`,
 `w X widened`): their answers are stored, and the oracle has to give the same. What the oracle calls `bad` has the word and the
-reason of tests/reading; of the group `read` it knows nothing, and all answers are tests/reading's. The seed is fixed: the same lines every time.
+reason of tests/reading; of the groups `read` and `repairs` it knows nothing, and all answers are tests/reading's. The seed is fixed: the same lines every time.
 """
 import os
 import random
@@ -509,7 +509,86 @@ def read_group(r):
     yield from ("read - 1 1 1 1", "read16 - 0 0 0 0", "read 6 1 1 1 1", "read 6B 1 1 1 1", "read 6g 1 1 1 1", "read  1 1 1 1", "read 6b 1 1 1", "read 6b 1 1 1 1 1", "read 6b 131073 1 1 1", "read 6b 1 1 1 -1", "read16 zz 131073 1 1 1", "read", "read32 - 1 1 1 1", "")
 
 
-GROUPS = {"numbers": numbers, "alpha": alpha_group, "alpha16": alpha16_group, "crop": crop_group, "normalizer": normalizer, "build": build_group, "passes": passes, "sheet": sheet_group, "read": read_group}
+def repairs_group(r):
+    """Offers judged and made: good ones, each way to be refused and the order of the numbers, the type's ends, idle slots, the first line without an offer."""
+    def judged(store, lines, window, precision, weights, starts, sizes, found, offered):
+        return "accept %d %d %d %d %s %s %s %s %d %d %s %s %s" % (
+            store, lines, window, precision, joined(weights), joined(starts), joined(sizes), joined(found), offered[0], offered[1], *map(joined, offered[2:]))
+    def made(store, lines, window, precision, weights, starts, sizes, found, room):
+        return "offer %d %d %d %d %s %s %s %s %d" % (store, lines, window, precision, joined(weights), joined(starts), joined(sizes), joined(found), room)
+    third = [21845] * 3
+    for store in (16, 32):
+        for offered in ([21846, 21845, 21845], [21845, 21846, 21845], [21845, 21845, 21846], [21846, 21846, 21844], third, [21847, 21844, 21845], [21846, 21844, 21845],
+                        [21846, 21845, 21846], [21846, 21845], [21846, 21845, 21845, 0], [21844, 21846, 21846], [21843, 21847, 21846]):
+            yield judged(store, 3, 3, 16, third, [0], [3], [-1], (3, 16, [0], [3], offered))
+        # two windows, one idle slot, excesses 1 and -1; a weight of the second cannot go up
+        top = 2 ** (store - 1)
+        fits = [store, 4, 3, store - 1, [1, top - 1, 1, top - 1, 0, 9], [0, 2], [3, 2], [1, -1]]
+        right_offer = [3, store - 1, [0, 2], [3, 2], [0, top - 1, 1, top - 1, 1, 77]]
+        for idle in (77, 9, 0, -top, top - 1):
+            yield judged(*fits, right_offer[:4] + [right_offer[4][:5] + [idle]])
+        for ws in ([1, top - 1, 0, top - 1, 1, 9], [1, top - 2, 1, top - 1, 1, 9], [0, top - 2, 2, top - 1, 1, 9], [0, top - 1, 1, top - 1, 0, 9], [1, top - 1, 1, top - 1, 1, 9], [0, top - 1, 1, top - 2, 2, 9]):
+            yield judged(*fits, right_offer[:4] + [ws])
+        for place, wrong in ((0, (2, 4, 0, 2**32 - 1)), (1, (store - 2, store, 0, 2**32 - 1)), (2, ([0, 1], [1, 2], [0], [], [0, 2, 2], [2, 0])), (3, ([3, 1], [2, 2], [3, 3], [3], [], [3, 2, 1], [2, 3])),
+                             (4, (right_offer[4][:5], right_offer[4] + [0], [], right_offer[4][:3], right_offer[4] * 2))):
+            for v in wrong:
+                hurt = list(right_offer)
+                hurt[place] = v
+                yield judged(*fits, hurt)
+        # every refusal of the stored set, for both, and which is first
+        for place, wrong in ((1, (0, 3, 5, 8192, 8193, 2**32 - 1)), (2, (0, 1, 2, 4, 32769, 32770, 2**32 - 1)), (3, (0, 3, 4, 21, 22, 45, 46, 2**32 - 1)), (4, (fits[4][:5], fits[4] + [0], [])),
+                             (5, ([0], [], [0, 3], [0, 2**32 - 1], [0, 2, 2])), (6, ([3], [], [3, 0], [3, 3], [4, 2], [3, 2, 1])), (7, ([1], [], [1, -1, 0], [0, -1], [1, 0], [-1, 1], [1, 8], [2**63 - 1, -(2**63)]))):
+            for v in wrong:
+                hurt = list(fits)
+                hurt[place] = v
+                if place == 3 and 4 <= v <= 45:
+                    hurt[7] = right(3, v, fits[4], fits[6])
+                yield judged(*hurt, right_offer)
+                yield judged(*hurt, [right_offer[0]] + [right_offer[1] + 1] + right_offer[2:])
+                for room in (5, 6):
+                    yield made(*hurt, room)
+        for room in range(9):
+            yield made(*fits, room)
+        for precision in (4, 21 if store == 16 else 45):  # the largest and smallest excesses
+            for w in (top - 1, -top):
+                yield made(store, 1, 1, precision, [w], [0], [1], [w - 2**precision], 1)
+                yield made(store, 40, 40, precision, [w] * 40, [0], [40], [40 * w - 2**precision], 40)
+        # the first line without an offer: none, each of three, and where several have none
+        for k in range(8):
+            windows = [[9, 9, 5] if k >> i & 1 == 0 else [top - 1, 20, 5] for i in range(3)]
+            yield made(store, 2, 3, 4, sum(windows, []), [0] * 3, [2] * 3, [sum(w[:2]) - 16 for w in windows], 9)
+            yield made(store, 3, 3, 4, sum(windows, []), [0] * 3, [3] * 3, [sum(w) - 16 for w in windows], 9)
+        for n in (1, 2, 7):  # as many as the excess asks, one fewer, one more
+            for over in range(-n - 1, n + 2):
+                ws = [16 // n] * (n - 1) + [16 - 16 // n * (n - 1) + over]
+                yield made(store, 8, 8, 4, ws + [1] * (8 - n), [0], [n], [over], 8)
+    # sets as a normaliser leaves them, our own offer judged, and one weight of it changed
+    for name, most in (("norm16", 15), ("norm32", 31)):
+        for kind, lines, out in (("catmullrom", 6, 4), ("catmullrom", 5, 7), ("mitchell", 9, 4), ("bilinear", 7, 3), ("catmullrom", 3, 2), ("box", 7, 3)):
+            window, slots, starts, sizes = built(kind, True, lines, out)
+            _, precision, weights, found = reading.answer("%s %d %d %s %s %s %d %d" % (name, lines, window, joined(slots, hex64), joined(starts), joined(sizes), len(slots), out)).split(" ")
+            one = "%d %d %d %s %s %s %s %s" % (most + 1, lines, window, precision, weights, joined(starts), joined(sizes), found)
+            yield "offer %s %d" % (one, len(slots))
+            no, _, own = reading.answer("offer %s %d" % (one, len(slots))).split(" ")
+            yield "accept %s %d %s %s %s %s" % (one, window, precision, joined(starts), joined(sizes), own)
+            for k in (0, 1, len(slots) - 1):
+                changed = own.split(",")
+                changed[k] = str(int(changed[k]) + 1)
+                yield "accept %s %d %s %s %s %s" % (one, window, precision, joined(starts), joined(sizes), ",".join(changed))
+    for of in (accept, offer):
+        for _ in range(120):
+            line = of(r)
+            while len(line) > 260:
+                line = of(r)
+            yield line
+    yield from ("accept", "offer", "accept 16", "offer 32", "accept 64 1 1 4 16 0 1 0 1 4 0 1 16", "offer 8 1 1 4 16 0 1 0 1", "offer  1 1 4 16 0 1 0 1", "offer 016 1 1 4 16 0 1 0 1", "offer -16 1 1 4 16 0 1 0 1",
+                "accept 16 1 1 4 32768 0 1 0 1 4 0 1 16", "accept 16 1 1 4 16 0 1 0 1 4 0 1 32768", "accept 16 1 1 4 16 0 1 0 1 4 0 1 -32769", "accept 32 1 1 4 32768 0 1 0 1 4 0 1 32768", "accept 32 1 1 4 2147483648 0 1 0 1 4 0 1 1",
+                "accept 32 1 1 4 16 0 1 9223372036854775808 1 4 0 1 16", "accept 32 1 1 4 16 0 1 0 1 4 0 1", "accept 32 1 1 4 16 0 1 0 1 4 0 1 16 0", "accept 32 1 1 4 16 0 1 0 1 4 0 -1 16", "accept 32 1 1 4 16 0 1 0 4294967296 4 0 1 16",
+                "offer 16 1 1 4 32768 0 1 0 1", "offer 32 1 1 4 32768 0 1 32752 1", "offer 16 1 1 4 16 0 1 0", "offer 16 1 1 4 16 0 1 0 1 1", "offer 16 1 1 4 16 0 1 0 131073", "offer 16 1 1 4 16 0 1 0 -1", "offer 16 - 1 4 16 0 1 0 1",
+                "offer 16 1 1 4 - - - - 0", "accept 16 1 1 4 - - - - 1 4 - - -", "Offer 16 1 1 4 16 0 1 0 1", "offer16 1 1 4 16 0 1 0 1", "")
+
+
+GROUPS = {"numbers": numbers, "alpha": alpha_group, "alpha16": alpha16_group, "crop": crop_group, "normalizer": normalizer, "build": build_group, "passes": passes, "sheet": sheet_group, "read": read_group, "repairs": repairs_group}
 
 
 def answers(oracle, lines):
@@ -525,7 +604,7 @@ def main():
         if name not in GROUPS:
             sys.exit("no group %s; there are %s" % (name, ", ".join(GROUPS)))
         lines = list(dict.fromkeys(GROUPS[name](random.Random(SEED))))
-        stored = [reading.answer(q) for q in lines] if name == "read" else answers(oracle, lines)
+        stored = [reading.answer(q) for q in lines] if name in ("read", "repairs") else answers(oracle, lines)
         if name == "numbers":
             theirs = list(testfloat(vectors))
             ours = answers(oracle, [q for q, _ in theirs])

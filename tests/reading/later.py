@@ -1,4 +1,4 @@
-"""What the requests of document 02 change in the reading. Each is a function that puts it in force; `run --with W-208,W-209` calls them, in the order of their numbers.
+"""What the requests of document 02 change in the reading. Each is a function that puts it in force; `run --with W-209,W-210` calls them, in the order of their numbers.
 When one lands, its lines move to lines.py.
 
 Written from document 02, the decisions on its open points and the protocol alone."""
@@ -9,68 +9,7 @@ import lines
 import numbers_of_bits as numbers
 import reader
 import weights
-from lines import REQUESTS, LISTS, EXCESSES, b64, bytes_of, i16, lent, listed, number, passed, show, u16, u32
-
-
-
-
-# W-208: offered repairs.
-
-def stored_set(top, count, window, precision, ws, starts, sizes, excesses):
-    """1 and 10 of a stored set."""
-    if not frames.sides(count, starts):
-        return 1
-    return 0 if frames.stored(21 if top == 2**15 else 45, count, window, precision, ws, starts, sizes, excesses) else 10
-
-
-def in_use(window, sizes):
-    return [i * window + k for i, n in enumerate(sizes) for k in range(n)]
-
-
-def accept(store, count, window, precision, ws, starts, sizes, excesses, offered_window, offered_precision, offered_starts, offered_sizes, offered):
-    no = stored_set(2 ** (store - 1), count, window, precision, ws, starts, sizes, excesses)
-    if no == 0:
-        same = (window, precision, starts, sizes, len(ws)) == (offered_window, offered_precision, offered_starts, offered_sizes, len(offered))
-        good = same and all(abs(offered[k] - ws[k]) <= 1 for k in in_use(window, sizes)) and not any(frames.excesses_of(window, precision, offered, sizes))
-        no = 0 if good else 14
-    if no == 0:
-        for k in in_use(window, sizes):
-            ws[k] = offered[k]
-        excesses[:] = [0] * len(excesses)
-    return "%d %s %s" % (no, show(ws), show(excesses))
-
-
-def offer(store, count, window, precision, ws, starts, sizes, excesses, out):
-    top, line = 2 ** (store - 1), 0
-    no = 1 if not frames.sides(count, starts) else 7 if len(out) < len(starts) * window else stored_set(top, count, window, precision, ws, starts, sizes, excesses)
-    made = [0] * len(ws)
-    for i, n in enumerate(sizes) if no == 0 else ():
-        left, step = abs(excesses[i]), -1 if excesses[i] > 0 else 1
-        for k in range(i * window, i * window + n):
-            moves = left > 0 and -top <= ws[k] + step < top
-            made[k], left = ws[k] + step * moves, left - moves
-        if left:
-            no, line = 14, i
-            break
-    if no == 0:
-        out[: len(made)] = made
-    return "%d %d %s" % (no, line, show(out))
-
-
-def by_store(fields, of):
-    """A request whose second word is the store; weights of 16 bits are an i16 list."""
-    def answer(words):
-        if words[1:2] not in (["16"], ["32"]):
-            lines.values(words[:2], (lines.store,))
-        bits = int(words[1])
-        return of(*lines.values(words, (lambda word: bits,) + fields(listed(i16 if bits == 16 else lines.i32))))
-    return answer
-
-
-def w208():
-    stored = lambda weight: (u32, u32, u32, weight) + LISTS + EXCESSES
-    lines.WHOLE["accept"] = by_store(lambda weight: stored(weight) + (u32, u32) + LISTS + (weight,), accept)
-    lines.WHOLE["offer"] = by_store(lambda weight: stored(weight) + (lent(),), offer)
+from lines import REQUESTS, LISTS, EXCESSES, b64, bytes_of, lent, listed, number, passed, show, u16, u32
 
 
 # W-209: two clients, one store.
@@ -219,4 +158,4 @@ def w214():
 
 
 IN_FORCE = set()
-LANDS = {"W-208": w208, "W-209": w209, "W-210": w210, "W-211": w211, "W-213": w213, "W-214": w214}
+LANDS = {"W-209": w209, "W-210": w210, "W-211": w211, "W-213": w213, "W-214": w214}

@@ -4,6 +4,7 @@ import re
 import frames
 import numbers_of_bits as numbers
 import reader
+import repairs
 import weights
 
 
@@ -103,6 +104,14 @@ def was_read(stores):
     return answer
 
 
+def accepted(*a):
+    return "%d %s %s" % (repairs.accept(*a), show(a[4]), show(a[7]))
+
+
+def offered(*a):
+    return "%d %d %s" % (*repairs.offer(*a), show(a[-1]))
+
+
 def infinite32(b):
     return b % 2**31 == 0x7F800000
 
@@ -158,7 +167,25 @@ def values(words, reads):
     return made
 
 
-WHOLE = {}  # requests that read their words themselves
+def by_store(fields, of):
+    """A request whose second word is the store; weights of the 16-bit store are an i16 list."""
+    def answer(words):
+        if words[1:2] not in (["16"], ["32"]):
+            values(words[:2], (store,))
+        bits = int(words[1])
+        return of(*values(words, (lambda word: bits,) + fields(listed(i16 if bits == 16 else i32))))
+    return answer
+
+
+def stored(weight):
+    return (u32, u32, u32, weight) + LISTS + EXCESSES
+
+
+# requests that read their words themselves
+WHOLE = {
+    "accept": by_store(lambda weight: stored(weight) + (u32, u32) + LISTS + (weight,), accepted),
+    "offer": by_store(lambda weight: stored(weight) + (lent(),), offered),
+}
 
 
 def request(words):

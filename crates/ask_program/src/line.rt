@@ -268,14 +268,16 @@ fn late(line: &[u8], a: Said, out: &mut [u8]) -> Said {
     narrow_readings(line, f, out)
 }
 
-// The answer to the line at s.at .. s.to, if there is one; the output's place behind it.
+// The answer to the line at s.at .. s.to, if there is one; the output's place behind it. Repairs have their lists themselves: they are asked here, and not below the lists
+// of another group, since both together are more than a stack of 8 MB holds.
 pub(crate) fn answered(s: State, buf: &[u8], out: &mut [u8]) -> usize {
     let p = part_of(s, buf);
     let from = p.from;
     let to = p.to;
     let line = &buf[from..to];
     let a = begun(s, line, out);
-    let b = early(line, a, out);
-    let c = late(line, b, out);
-    ended(s.whole, c, out)
+    let b = ask_repairs::answer(line, a, out);
+    let c = early(line, b, out);
+    let d = late(line, c, out);
+    ended(s.whole, d, out)
 }

@@ -14,6 +14,7 @@ pub mod BoxPrecision
 pub mod BoxPremise
 pub mod BoxFlat
 pub mod MakersFit
+pub mod Repairs
 pub mod ColumnCuts
 pub mod InfiniteLimit
 pub mod InfiniteCounts

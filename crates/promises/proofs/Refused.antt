@@ -44,6 +44,8 @@ use Rattle.vertical.specs.PassedF32.{after as after-f32, numberOf as numberOfPa
 use Rattle.vertical.specs.U16.{passedU16, writtenU16}
 use Rattle.vertical.specs.F32.{passedF32, writtenF32}
 use Rattle.vertical_u8.specs.U8.{passedU8, writtenU8}
+use Rattle.repairs.proofs.Taken.{untouched}
+use Rattle.repairs.proofs.Own.{unwritten}
 use Rattle.sheet.specs.declared.Sheet.the-variants as sheet
 use Rattle.sheet.specs.Answer.{noRoom, byCase, numberOf as numberOfSheet}
 use Rattle.sheet.specs.Text.{sheetText}
@@ -154,4 +156,6 @@ refused-unchanged = record {
   multiply-u16 = λ src out n0. applied-kept (badLists (length src) (length out)) _ out n0;
   divide-u16 = λ src out n0. applied-kept (badLists (length src) (length out)) _ out n0;
   sheet = λ kind store s out n0. sheet-kept (badSides (s .set .layout .lines) (windows (s .set .layout))) (badStored s store) (noRoom (length out) (length (sheetText kind store s))) (length (sheetText kind store s)) _ out n0;
+  accept = untouched;
+  offer = unwritten;
 }

@@ -4,6 +4,7 @@ pub mod ColumnCuts
 pub mod RefusedUnchanged
 pub mod BoxKeepsFlat
 pub mod MakersFit
+pub mod Repairs
 pub mod AlphaSteps
 pub mod ClipRule
 pub mod Table

@@ -27,6 +27,8 @@ use Rattle.vertical.specs.PassedF32.{numberOf as numberOfPassedF32}
 use Rattle.vertical.specs.U16.{passedU16, writtenU16}
 use Rattle.vertical.specs.F32.{passedF32, writtenF32}
 use Rattle.vertical_u8.specs.U8.{passedU8, writtenU8}
+use Rattle.repairs.specs.Offer.{Offer}
+use Rattle.repairs.specs.Answer.{acceptedOf, numberOf as numberOfAccepted, weightsOf as weightsTaken, excessesOf as excessesTaken, offeredOf, offeredNumber, writtenOf as offerIn}
 use Rattle.sheet.specs.Answer.{answerOf, numberOf as numberOfSheet, writtenOf as sheetIn}
 
 -- a number other than that
@@ -64,3 +66,5 @@ pub record RefusedUnchanged : Type 0 where
   pub multiply-u16 : (src out : List ℕ) → Not 0 (numberOfApplied (appliedTo src out)) → multipliedList16 src out ≡ out
   pub divide-u16 : (src out : List ℕ) → Not 0 (numberOfApplied (appliedTo src out)) → dividedList16 src out ≡ out
   pub sheet : (kind : FilterType) (store : Store) (s : Stored) (out : List ℕ) → Not 0 (numberOfSheet (answerOf kind store s (length out))) → sheetIn kind store s out ≡ out
+  pub accept : (store : Store) (s : Stored) (o : Offer) → Not 0 (numberOfAccepted (acceptedOf store s o)) → (weightsTaken store s o ≡ s .set .weights) × (excessesTaken store s o ≡ s .excesses)
+  pub offer : (store : Store) (s : Stored) (out : List ℤ) → Not 0 (offeredNumber (offeredOf store s (length out))) → offerIn store s out ≡ out

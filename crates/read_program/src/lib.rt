@@ -1,38 +1,23 @@
-// The program `read_back`: the sheet of a file. `file` brings the text, `reader` judges it; `told` says in words what a sheet says, `place` and `marked`
-// where a text that is none stops being one, `unread` and `limits` why no text was judged. Standard output has the answer, standard error the
-// reason for a person. No contract says what is read or printed, since none could speak of the streams; every function is safe at every argument.
-mod file;
-mod marked;
-mod place;
-mod streams;
+// The program `read_back`: the sheet of a file. `sheet_files` brings the text, `reader` judges it; `told` says in words what a sheet says. Standard output
+// has the answer, standard error the reason for a person. No contract says what is read or printed, since none could speak of the streams; every function
+// is safe at every argument.
 mod told;
-mod unread;
 
-use file::Ends;
 use reader::Reading;
 
 // Answers the program's one argument, a file's name. The text stands here, apart from what looks at it.
 pub fn run() {
     let mut text = [0u8; 524288];
-    if os::arg_count() < 2 {
-        return unread::missing();
-    }
-    if 2 < os::arg_count() {
-        return unread::too_many();
-    }
     answer(&mut text);
 }
 
 // Reads the file, and what it has.
 fn answer(text: &mut [u8]) {
     let a: usize = 0;
-    let got = file::read(text);
+    let got = sheet_files::text(text);
     let n = got.n;
-    let ends = got.ends;
-    match ends {
-        Ends::Whole => judge(&text[a..n]),
-        Ends::Failed => unread::failed(),
-        Ends::Long => unread::long(),
+    if got.whole {
+        judge(&text[a..n]);
     }
 }
 
@@ -56,7 +41,7 @@ fn read(
     let answer = reader::read_sheet(text, weights, starts, sizes, excesses);
     match answer {
         Reading::Loaded(head, store) => told::sheet(head, store, starts, sizes, excesses),
-        Reading::TooFew => unread::too_large(),
-        Reading::NotASheet(byte) => marked::refused(text, byte),
+        Reading::TooFew => sheet_files::too_large(),
+        Reading::NotASheet(byte) => sheet_files::refused(text, byte),
     }
 }

@@ -1,9 +1,9 @@
 // What a sheet says, in words: its head, then a line for each window.
-use crate::streams::out;
-use crate::streams::out_number;
 use answer_lines::size;
 use filters::FilterType;
 use sheet::keys;
+use sheet_files::streams::out;
+use sheet_files::streams::out_number;
 use sheet_scan::Sizes;
 use sheet_scan::StoreLines;
 

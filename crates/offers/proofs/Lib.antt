@@ -1,0 +1,3 @@
+pub mod RepairLaws
+pub mod OwnLaws
+pub mod StepLaws

@@ -1,0 +1,4 @@
+pub mod Offer
+pub mod Answer
+pub mod Left
+pub mod Agreement
