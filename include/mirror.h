@@ -21,8 +21,9 @@
 extern "C" {
 #endif
 
-/* The answers: document 01's numbers, each given exactly when its line says. Where several hold, the smallest is given, save that a
- * normaliser judges 10 before 9. On a refusal other than No. 8 every lent list is unchanged. */
+/* The answers: document 01's numbers and those of document 02, each given exactly when its line says. Where several hold, the smallest is
+ * given, save that a normaliser judges 10 before 9, and that 16 comes before every other number. On a refusal other than No. 8 every lent
+ * list is unchanged. */
 enum {
     MIRROR_DONE = 0,             /* done; slots past those asked for are unchanged */
     MIRROR_BAD_SIDE = 1,         /* a side outside 1 to 8,192 (fitting: above 8,192), or a row length outside 1 to 32,768 */
@@ -41,10 +42,13 @@ enum {
     MIRROR_SAMPLE_OUTSIDE = 12,  /* f32 pass: a sample in use or weight in use not finite, or a weight above 2^64 in size */
     MIRROR_NOT_A_SHEET = 13,     /* a text that is not of a sheet's form; the byte where its longest acceptable beginning ends is given */
     MIRROR_NO_OFFER = 14,        /* an offer of weights that is not accepted, or of which there is none; of the latter the first line is given */
-    MIRROR_BAD_CODE = 100        /* a filter above 3, an axis above 1 or a flag above 1; judged before anything else, nothing is written but
+    MIRROR_SHARES_DO_NOT_FIT = 15, /* a restart of a shared store: the two shares together are more than its slots */
+    MIRROR_RETIRED_FILTER = 16,  /* a filter that no new set is built with: MIRROR_MITCHELL, in a build and for a filter's weight */
+    MIRROR_BAD_CODE = 100        /* a filter above 3, an axis above 1 or a flag above 1; judged before anything but 16, nothing is written but
                                     the zeros beside the answer. It exists at this interface only, where a choice has become a number. */
 };
 
+/* The names of sheets. A set is built with the first three; MIRROR_MITCHELL is retired, and its sheets are read, run and written as before. */
 enum { MIRROR_BOX = 0, MIRROR_BILINEAR = 1, MIRROR_CATMULLROM = 2, MIRROR_MITCHELL = 3 };
 enum { MIRROR_HORIZONTAL = 0, MIRROR_VERTICAL = 1 }; /* the axis that is built: left and width, or top and height */
 
@@ -58,7 +62,7 @@ uint64_t mirror_widen(uint32_t x);   /* binary32 to binary64 */
 /* binary64 to binary32, ties to even, infinity where too large; *infinite is 1 where the result is an infinity, else 0 */
 uint32_t mirror_narrow(uint64_t x, uint32_t *infinite);
 
-/* One filter's weight at the distance x; 0 where x is infinite or a NaN. 0, 100. */
+/* One filter's weight at the distance x; 0 where x is infinite or a NaN. 0, 16, 100. */
 uint32_t mirror_filter(uint32_t filter, double x, double *weight);
 
 /* Whether a crop box lies in the image; its ends are judged by exact sums. 0 to 5. */
@@ -72,7 +76,7 @@ uint32_t mirror_fit(uint32_t src_width, uint32_t src_height, uint32_t dst_width,
                     double *left, double *top, double *width, double *height);
 
 /* The weight set of one axis: for each display line the window's first camera line in starts, its size in sizes, and its weights in
- * the line's `window` slots of weights. adapts 1: the kernel widens with the scale; 0: it does not. 0 to 8, 100. */
+ * the line's `window` slots of weights. adapts 1: the kernel widens with the scale; 0: it does not. 0 to 8, 16, 100. */
 uint32_t mirror_weights(uint32_t image_width, uint32_t image_height, double left, double top, double width, double height,
                         uint32_t axis, uint32_t out_side, uint32_t filter, uint32_t adapts,
                         double *weights, size_t weights_len, uint32_t *starts, size_t starts_len, uint32_t *sizes, size_t sizes_len,
@@ -135,6 +139,16 @@ uint32_t mirror_sheet32(uint32_t filter, uint32_t lines, uint32_t window, uint32
                         const uint32_t *sizes, size_t sizes_len, const int64_t *excesses, size_t excesses_len,
                         uint8_t *text, size_t text_len, uint64_t *written);
 
+/* Why one sample of the u16 pass has its number: the story of a display line at a column, into text; written is its bytes. A line
+ * line=NUMBER,WEIGHT,SAMPLE,PRODUCT for each camera line of the window, in line order, then total=, half=, shifted=, clip= (low, high or none) and
+ * final=, which is the pass's own number. 0, 1, 10, 11. No. 1 and 10 as for mirror_vertical_u16, but for the range and its output; No. 10 also for a
+ * display line or a column that does not exist; then No. 11. */
+uint32_t mirror_story(const uint16_t *src, size_t src_len, uint32_t lines, uint32_t row,
+                      const int32_t *weights, size_t weights_len, const uint32_t *starts, size_t starts_len,
+                      const uint32_t *sizes, size_t sizes_len, const int64_t *excesses, size_t excesses_len,
+                      uint32_t window, uint32_t precision, uint32_t line, uint32_t column,
+                      uint8_t *text, size_t text_len, uint64_t *written);
+
 /* The set of a sheet's text in the four lists, and what its head says beside the answer: the filter's code, camera lines, display lines
  * (windows), window size, bits of the store, precision. mirror_read_sheet takes sheets of both stores, mirror_read_sheet16 those of the
  * 16-bit store alone. Exactly the texts that the writers write for a set that the u16 pass takes are accepted, byte for byte; slots past a
@@ -172,6 +186,33 @@ uint32_t mirror_offer16(uint32_t lines, uint32_t window, uint32_t precision, con
 uint32_t mirror_offer32(uint32_t lines, uint32_t window, uint32_t precision, const int32_t *weights, size_t weights_len,
                         const uint32_t *starts, size_t starts_len, const uint32_t *sizes, size_t sizes_len,
                         const int64_t *excesses, size_t excesses_len, int32_t *out, size_t out_len, uint32_t *line);
+
+/* One weight store for two clients, 0 and 1 (docs/SHARED_STORE.md). The store is five lists that the caller keeps and lends with every call: numbers
+ * (exactly MIRROR_STORE_NUMBERS), slots (any count), and starts, sizes and excesses (exactly MIRROR_STORE_LINES each). Lists full of zeros are a store
+ * with no share and no set. Whatever state is handed in is judged: No. 10 for lists of other lengths, shares that are together more than the slots, or a
+ * client above 1; then nothing is touched. What one client gets back depends on its own calls, its share and its own frames alone.
+ *
+ * restart: the shares of client 0 and client 1, and no set. 0, 10, 15.
+ * put: a set as mirror_weights and mirror_normalize32 make it, in the place of the client's former one. 0 to 10, 16, 100. No. 7 is judged against the share; after any
+ * refusal, No. 8 included, the former set stays. doubles (at least the share), firsts and counts (at least MIRROR_STORE_LINES / 2 each) are room to work in, else No. 10;
+ * what they hold afterwards is the builder's.
+ * u16: the vertical pass with the client's set. 0, 1, 10; No. 10 also for a client without a set, or with one that is not inside its share. */
+enum { MIRROR_STORE_NUMBERS = 10, MIRROR_STORE_LINES = 16384 };
+uint32_t mirror_store_restart(uint32_t *numbers, size_t numbers_len, const int32_t *slots, size_t slots_len,
+                              const uint32_t *starts, size_t starts_len, const uint32_t *sizes, size_t sizes_len,
+                              const int64_t *excesses, size_t excesses_len, uint32_t first, uint32_t second);
+uint32_t mirror_store_put(uint32_t *numbers, size_t numbers_len, int32_t *slots, size_t slots_len,
+                          uint32_t *starts, size_t starts_len, uint32_t *sizes, size_t sizes_len,
+                          int64_t *excesses, size_t excesses_len, uint32_t client,
+                          uint32_t image_width, uint32_t image_height, double left, double top, double width, double height,
+                          uint32_t axis, uint32_t out_side, uint32_t filter, uint32_t adapts,
+                          double *doubles, size_t doubles_len, uint32_t *firsts, size_t firsts_len, uint32_t *counts, size_t counts_len,
+                          uint32_t *window, uint32_t *line);
+uint32_t mirror_store_u16(const uint32_t *numbers, size_t numbers_len, const int32_t *slots, size_t slots_len,
+                          const uint32_t *starts, size_t starts_len, const uint32_t *sizes, size_t sizes_len,
+                          const int64_t *excesses, size_t excesses_len, uint32_t client,
+                          const uint16_t *src, size_t src_len, uint32_t row, uint32_t first, uint32_t count,
+                          uint16_t *out, size_t out_len);
 
 #ifdef __cplusplus
 }

@@ -13,17 +13,21 @@ mod refusal;
 mod repairs;
 mod sets;
 mod sheets;
+mod store;
+mod stories;
 
 pub use alpha::{divide_alpha, divide_alpha_inplace, multiply_alpha, multiply_alpha_inplace};
 pub use alpha::{divide_alpha16, divide_alpha16_inplace, multiply_alpha16, multiply_alpha16_inplace};
 pub use crops::{crop, fit, Centring, CropBox};
-pub use numbers::{abs, ceil, clip8, filter, floor, narrow, round, widen, Filter, Narrowed};
+pub use numbers::{abs, ceil, clip8, filter, floor, narrow, round, widen, Filter, FilterType, Narrowed};
 pub use passes::{vertical_f32, vertical_u16, vertical_u8, Frame};
 pub use readers::{read_sheet, read_sheet16, Head};
 pub use refusal::Refusal;
 pub use repairs::{accept16, accept32, offer16, offer32, Offer, Repairable};
 pub use sets::{normalize16, normalize32, weights, Axis, Request, Set, Stored};
 pub use sheets::{sheet16, sheet32};
+pub use store::{Client, Store};
+pub use stories::story;
 
 /// The number of a line of the camera's image, from 0.
 #[repr(transparent)]

@@ -44,31 +44,48 @@ pub fn clip8(value: i32) -> u8 {
     unsafe { raw::mirror_clip8(value) }
 }
 
+/// A name: what a sheet says, and what a request asks for. Mitchell is retired: its sheets are read, run and written as before, and a
+/// request for it is refused.
 #[repr(u32)]
 #[derive(Clone, Copy, Debug, PartialEq, Eq)]
-pub enum Filter {
+pub enum FilterType {
     Box = 0,
     Bilinear = 1,
     CatmullRom = 2,
     Mitchell = 3,
 }
 
-impl Filter {
-    /// The filter of a code of the C interface, which has no code above 3.
-    pub(crate) fn of_code(code: u32) -> Filter {
+impl FilterType {
+    /// The name of a code of the C interface, which has no code above 3.
+    pub(crate) fn of_code(code: u32) -> FilterType {
         match code {
-            0 => Filter::Box,
-            1 => Filter::Bilinear,
-            2 => Filter::CatmullRom,
-            _ => Filter::Mitchell,
+            0 => FilterType::Box,
+            1 => FilterType::Bilinear,
+            2 => FilterType::CatmullRom,
+            _ => FilterType::Mitchell,
         }
+    }
+}
+
+/// What a set is built with.
+#[repr(u32)]
+#[derive(Clone, Copy, Debug, PartialEq, Eq)]
+pub enum Filter {
+    Box = 0,
+    Bilinear = 1,
+    CatmullRom = 2,
+}
+
+impl From<Filter> for FilterType {
+    fn from(filter: Filter) -> FilterType {
+        FilterType::of_code(filter as u32)
     }
 }
 
 /// The filter's weight at the distance x.
 pub fn filter(filter: Filter, x: f64) -> f64 {
     let mut weight = 0.0;
-    // Every filter has a code, so the answer is 0.
+    // Every filter has a code and none is retired, so the answer is 0.
     unsafe { raw::mirror_filter(filter as u32, x, &mut weight) };
     weight
 }

@@ -72,6 +72,12 @@ extern "C" {
         sizes: *const u32, sizes_len: usize, excesses: *const i64, excesses_len: usize, text: *mut u8, text_len: usize, written: *mut u64,
     ) -> u32;
 
+    pub fn mirror_story(
+        src: *const u16, src_len: usize, lines: u32, row: u32, weights: *const i32, weights_len: usize, starts: *const u32, starts_len: usize,
+        sizes: *const u32, sizes_len: usize, excesses: *const i64, excesses_len: usize, window: u32, precision: u32, line: u32, column: u32,
+        text: *mut u8, text_len: usize, written: *mut u64,
+    ) -> u32;
+
     pub fn mirror_read_sheet(
         text: *const u8, text_len: usize, weights: *mut i32, weights_len: usize, starts: *mut u32, starts_len: usize, sizes: *mut u32, sizes_len: usize,
         excesses: *mut i64, excesses_len: usize, filter: *mut u32, lines: *mut u32, windows: *mut u32, window: *mut u32, store: *mut u32, precision: *mut u32, byte: *mut u64,
@@ -98,5 +104,23 @@ extern "C" {
     pub fn mirror_offer32(
         lines: u32, window: u32, precision: u32, weights: *const i32, weights_len: usize, starts: *const u32, starts_len: usize,
         sizes: *const u32, sizes_len: usize, excesses: *const i64, excesses_len: usize, out: *mut i32, out_len: usize, line: *mut u32,
+    ) -> u32;
+
+    pub fn mirror_store_restart(
+        numbers: *mut u32, numbers_len: usize, slots: *const i32, slots_len: usize, starts: *const u32, starts_len: usize, sizes: *const u32, sizes_len: usize,
+        excesses: *const i64, excesses_len: usize, first: u32, second: u32,
+    ) -> u32;
+    pub fn mirror_store_put(
+        numbers: *mut u32, numbers_len: usize, slots: *mut i32, slots_len: usize, starts: *mut u32, starts_len: usize, sizes: *mut u32, sizes_len: usize,
+        excesses: *mut i64, excesses_len: usize, client: u32,
+        image_width: u32, image_height: u32, left: f64, top: f64, width: f64, height: f64,
+        axis: u32, out_side: u32, filter: u32, adapts: u32,
+        doubles: *mut f64, doubles_len: usize, firsts: *mut u32, firsts_len: usize, counts: *mut u32, counts_len: usize,
+        window: *mut u32, line: *mut u32,
+    ) -> u32;
+    pub fn mirror_store_u16(
+        numbers: *const u32, numbers_len: usize, slots: *const i32, slots_len: usize, starts: *const u32, starts_len: usize, sizes: *const u32, sizes_len: usize,
+        excesses: *const i64, excesses_len: usize, client: u32,
+        src: *const u16, src_len: usize, row: u32, first: u32, count: u32, out: *mut u16, out_len: usize,
     ) -> u32;
 }

@@ -1,4 +1,4 @@
-use crate::numbers::Filter;
+use crate::numbers::FilterType;
 use crate::raw;
 use crate::refusal::{judged_at, Refusal};
 use crate::CameraLine;
@@ -6,7 +6,7 @@ use crate::CameraLine;
 /// What the first six lines of a sheet say.
 #[derive(Clone, Copy, Debug, PartialEq, Eq)]
 pub struct Head {
-    pub filter: Filter,
+    pub filter: FilterType,
     /// camera lines
     pub lines: u32,
     /// display lines: so many starts, sizes and excesses, and `window` slots of weights for each
@@ -33,7 +33,7 @@ impl Told {
     fn judged(self, number: u32) -> Result<Head, Refusal> {
         judged_at(number, 0, self.byte)?;
         Ok(Head {
-            filter: Filter::of_code(self.filter), lines: self.lines, windows: self.windows,
+            filter: FilterType::of_code(self.filter), lines: self.lines, windows: self.windows,
             window: self.window, store: self.store, precision: self.precision,
         })
     }

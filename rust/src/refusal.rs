@@ -34,6 +34,10 @@ pub enum Refusal {
     NotAccepted,
     /// 14: no offer of our own; the first display line that has none
     NoOffer(DisplayLine),
+    /// 15: the shares of a restart are together more than the store's slots
+    SharesDoNotFit,
+    /// 16: a filter that no new set is built with
+    RetiredFilter,
     /// 100: a code that names nothing; enums of this crate have no such code
     BadCode,
 }
@@ -61,6 +65,8 @@ pub(crate) fn judged_at(number: u32, line: u32, byte: u64) -> Result<(), Refusal
         12 => Refusal::SampleOutside,
         13 => Refusal::NotASheet(byte),
         14 => Refusal::NoOffer(DisplayLine(line)),
+        15 => Refusal::SharesDoNotFit,
+        16 => Refusal::RetiredFilter,
         _ => Refusal::BadCode,
     })
 }
@@ -83,6 +89,8 @@ impl Refusal {
             Refusal::SampleOutside => 12,
             Refusal::NotASheet(_) => 13,
             Refusal::NotAccepted | Refusal::NoOffer(_) => 14,
+            Refusal::SharesDoNotFit => 15,
+            Refusal::RetiredFilter => 16,
             Refusal::BadCode => 100,
         }
     }

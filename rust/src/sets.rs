@@ -1,5 +1,5 @@
 use crate::crops::CropBox;
-use crate::numbers::Filter;
+use crate::numbers::FilterType;
 use crate::raw;
 use crate::refusal::{judged, Refusal};
 use crate::CameraLine;
@@ -20,7 +20,7 @@ pub struct Request {
     pub crop: CropBox,
     pub axis: Axis,
     pub out_side: u32,
-    pub filter: Filter,
+    pub filter: FilterType,
     pub adapts: bool,
 }
 

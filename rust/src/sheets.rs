@@ -1,10 +1,10 @@
-use crate::numbers::Filter;
+use crate::numbers::FilterType;
 use crate::raw;
 use crate::refusal::{judged, Refusal};
 use crate::sets::Stored;
 
 /// The sheet of a set of the 16-bit store at the beginning of `text`; how many bytes it has.
-pub fn sheet16(filter: Filter, stored: &Stored<i16>, text: &mut [u8]) -> Result<u64, Refusal> {
+pub fn sheet16(filter: FilterType, stored: &Stored<i16>, text: &mut [u8]) -> Result<u64, Refusal> {
     let (set, mut written) = (&stored.set, 0);
     let number = unsafe {
         raw::mirror_sheet16(
@@ -16,7 +16,7 @@ pub fn sheet16(filter: Filter, stored: &Stored<i16>, text: &mut [u8]) -> Result<
 }
 
 /// The same of the 32-bit store.
-pub fn sheet32(filter: Filter, stored: &Stored<i32>, text: &mut [u8]) -> Result<u64, Refusal> {
+pub fn sheet32(filter: FilterType, stored: &Stored<i32>, text: &mut [u8]) -> Result<u64, Refusal> {
     let (set, mut written) = (&stored.set, 0);
     let number = unsafe {
         raw::mirror_sheet32(

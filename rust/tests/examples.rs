@@ -3,7 +3,7 @@ use mirror::*;
 
 const WHOLE: CropBox = CropBox { left: 0.0, top: 0.0, width: 4.0, height: 1.0 };
 const REQUEST: Request =
-    Request { image_width: 4, image_height: 1, crop: WHOLE, axis: Axis::Horizontal, out_side: 2, filter: Filter::Box, adapts: true };
+    Request { image_width: 4, image_height: 1, crop: WHOLE, axis: Axis::Horizontal, out_side: 2, filter: FilterType::Box, adapts: true };
 
 fn set<'a, W>(lines: u32, weights: &'a [W], sizes: &'a [u32]) -> Set<'a, W> {
     Set { lines, window: weights.len() as u32, weights, starts: &[CameraLine(0)], sizes }
@@ -71,7 +71,7 @@ fn a_blank_window_names_its_display_line() {
     let (mut slots, mut starts, mut sizes) = ([7.0; 3], [CameraLine(7)], [7]);
     assert_eq!(weights(&request, &mut slots, &mut starts, &mut sizes), Err(Refusal::BlankWindow(DisplayLine(0))));
     assert_eq!((slots, starts, sizes), ([0.0; 3], [CameraLine(0)], [0]));
-    assert_eq!(weights(&Request { filter: Filter::Bilinear, ..request }, &mut slots, &mut starts, &mut sizes), Ok(3));
+    assert_eq!(weights(&Request { filter: FilterType::Bilinear, ..request }, &mut slots, &mut starts, &mut sizes), Ok(3));
 }
 
 #[test]
@@ -86,7 +86,9 @@ fn a_refused_request_writes_nothing() {
     assert_eq!(refused(Request { out_side: 8193, ..REQUEST }), Err(Refusal::BadSide));
     assert_eq!(refused(Request { out_side: 8192, ..REQUEST }), Err(Refusal::TooFewSlots));
     assert_eq!(refused(Request { crop: CropBox { width: 0.0, ..WHOLE }, ..REQUEST }), Err(Refusal::NoScale));
-    assert_eq!(refused(Request { filter: Filter::Mitchell, axis: Axis::Vertical, ..REQUEST }), Err(Refusal::TooFewSlots));
+    assert_eq!(refused(Request { filter: FilterType::CatmullRom, axis: Axis::Vertical, ..REQUEST }), Err(Refusal::TooFewSlots));
+    assert_eq!(refused(Request { filter: FilterType::Mitchell, axis: Axis::Vertical, ..REQUEST }), Err(Refusal::RetiredFilter));
+    assert_eq!(refused(Request { filter: FilterType::Mitchell, image_width: 0, out_side: 0, ..REQUEST }), Err(Refusal::RetiredFilter));
 }
 
 #[test]
@@ -187,21 +189,21 @@ fn the_sheet_is_document_01s() {
     let set32 = Set { lines: 4, window: 3, weights: &weights, starts: &starts, sizes: &sizes };
     let (right, wrong) = (stored(set32, 31, &[0, 0]), stored(set32, 31, &[0, 1]));
     let mut text = [7; SHEET.len() + 1];
-    assert_eq!(sheet32(Filter::Box, &right, &mut text[..SHEET.len() - 1]), Err(Refusal::NoRoom));
-    assert_eq!(sheet32(Filter::Box, &wrong, &mut text), Err(Refusal::DoesNotFit));
+    assert_eq!(sheet32(FilterType::Box, &right, &mut text[..SHEET.len() - 1]), Err(Refusal::NoRoom));
+    assert_eq!(sheet32(FilterType::Box, &wrong, &mut text), Err(Refusal::DoesNotFit));
     assert_eq!(text, [7; SHEET.len() + 1]);
-    assert_eq!(sheet32(Filter::Box, &right, &mut text), Ok(SHEET.len() as u64));
+    assert_eq!(sheet32(FilterType::Box, &right, &mut text), Ok(SHEET.len() as u64));
     assert_eq!((&text[..SHEET.len()], text[SHEET.len()]), (SHEET, 7));
-    assert_eq!(sheet16(Filter::Mitchell, &stored(set(1, &[-5], &[1]), 4, &[-21]), &mut text), Ok(SMALL.len() as u64));
+    assert_eq!(sheet16(FilterType::Mitchell, &stored(set(1, &[-5], &[1]), 4, &[-21]), &mut text), Ok(SMALL.len() as u64));
     assert!(text.starts_with(SMALL));
-    assert_eq!(sheet16(Filter::Box, &stored(set(1, &[-5], &[1]), 22, &[-5 - (1 << 22)]), &mut text), Err(Refusal::DoesNotFit));
+    assert_eq!(sheet16(FilterType::Box, &stored(set(1, &[-5], &[1]), 22, &[-5 - (1 << 22)]), &mut text), Err(Refusal::DoesNotFit));
 }
 
 #[test]
 fn a_sheet_is_read_back_and_written_again() {
     let half = 1 << 30;
     let (mut slots, mut starts, mut sizes, mut excesses) = ([7; 7], [CameraLine(7); 3], [7; 3], [7; 3]);
-    let head = Head { filter: Filter::Box, lines: 4, windows: 2, window: 3, store: 32, precision: 31 };
+    let head = Head { filter: FilterType::Box, lines: 4, windows: 2, window: 3, store: 32, precision: 31 };
     assert_eq!(read_sheet(SHEET, &mut slots, &mut starts, &mut sizes, &mut excesses), Ok(head));
     assert_eq!((slots, starts, sizes), ([half, half, 0, half, half, 0, 7], [CameraLine(0), CameraLine(2), CameraLine(7)], [2, 2, 7]));
     assert_eq!(excesses, [0, 0, 7]);
@@ -211,7 +213,7 @@ fn a_sheet_is_read_back_and_written_again() {
     assert_eq!(text, SHEET);
 
     let (mut narrow, mut one, mut size, mut over) = ([7i16; 1], [CameraLine(7)], [7], [7]);
-    let head16 = Head { filter: Filter::Mitchell, lines: 1, windows: 1, window: 1, store: 16, precision: 4 };
+    let head16 = Head { filter: FilterType::Mitchell, lines: 1, windows: 1, window: 1, store: 16, precision: 4 };
     assert_eq!(read_sheet16(SMALL, &mut narrow, &mut one, &mut size, &mut over), Ok(head16));
     assert_eq!((narrow, one, size, over), ([-5], [CameraLine(0)], [1], [-21]));
 }
@@ -275,4 +277,36 @@ fn the_first_line_without_an_offer_is_told() {
     held.lines = 0;
     assert_eq!(accept32(&mut held, &Offer { window: 2, precision: 4, starts: &starts, sizes: &sizes, weights: &[8, 8, 8, 8] }), Err(Refusal::BadSide));
     assert_eq!((weights, excesses), ([8, 8, 8, 8], [0, 0]));
+}
+
+#[test]
+fn two_clients_share_a_store() {
+    let mut store = Store::<30>::new();
+    let frame = Frame { samples: &[7, 8, 9], row: 1, first: 0, count: 1 };
+    let set = Request { image_width: 3, crop: CropBox { width: 3.0, ..WHOLE }, out_side: 3, adapts: false, ..REQUEST };
+    let mut out = [0; 3];
+    assert_eq!(store.restart(16, 15), Err(Refusal::SharesDoNotFit));
+    assert_eq!(store.restart(9, 21), Ok(()));
+    assert_eq!(store.put(Client::Left, &set), Ok(3));
+    assert_eq!(store.put(Client::Left, &Request { image_width: 4, crop: WHOLE, out_side: 4, ..set }), Err(Refusal::TooFewSlots));
+    assert_eq!((store.vertical_u16(Client::Left, &frame, &mut out), out), (Ok(()), [7, 8, 9]));
+    assert_eq!(store.vertical_u16(Client::Right, &frame, &mut out), Err(Refusal::DoesNotFit));
+    assert_eq!(store.put(Client::Right, &Request { image_width: 4, crop: WHOLE, out_side: 4, ..set }), Ok(3));
+    assert_eq!(store.vertical_u16(Client::Left, &frame, &mut out), Ok(()));
+    assert_eq!((store.restart(0, 30), store.vertical_u16(Client::Left, &frame, &mut out)), (Ok(()), Err(Refusal::DoesNotFit)));
+}
+
+#[test]
+fn a_pixel_tells_its_story() {
+    const STORY: &[u8] = b"line=0,8,1,8\nline=1,8,0,0\ntotal=8\nhalf=8\nshifted=1\nclip=none\nfinal=1\n";
+    let halves = stored(set(2, &[8, 8], &[2]), 4, &[0]);
+    let mut text = [7; 80];
+    assert_eq!(story(&[1, 0], 1, &halves, DisplayLine(0), 0, &mut text), Ok(STORY.len() as u64));
+    assert_eq!((&text[..STORY.len()], &text[STORY.len()..]), (STORY, &[7; 80][STORY.len()..]));
+    text = [7; 80];
+    assert_eq!(story(&[1, 0], 1, &halves, DisplayLine(0), 0, &mut text[..STORY.len() - 1]), Err(Refusal::NoRoom));
+    assert_eq!(story(&[1, 0], 1, &halves, DisplayLine(1), 0, &mut text), Err(Refusal::DoesNotFit));
+    assert_eq!(story(&[1, 0], 1, &halves, DisplayLine(0), 1, &mut text), Err(Refusal::DoesNotFit));
+    assert_eq!(story(&[1, 0], 0, &halves, DisplayLine(0), 0, &mut text), Err(Refusal::BadSide));
+    assert_eq!(text, [7; 80]);
 }

@@ -72,6 +72,8 @@ int main(void)
     check_sheets();
     check_readers();
     check_repairs();
+    check_stores();
+    check_stories();
     printf("checks=%d failures=%d\n", checks, failures);
     return failures != 0;
 }

@@ -46,4 +46,6 @@ void check_alpha(void);
 void check_sheets(void);
 void check_readers(void);
 void check_repairs(void);
+void check_stores(void);
+void check_stories(void);
 #endif

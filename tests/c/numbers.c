@@ -50,14 +50,17 @@ static void check_filters(void)
     CHECK(mirror_filter(MIRROR_BOX, 0.5, &w) == 0 && w == 1);
     CHECK(mirror_filter(MIRROR_BILINEAR, -0.25, &w) == 0 && w == 0.75);
     CHECK(mirror_filter(MIRROR_CATMULLROM, 1.5, &w) == 0 && w == -0.0625);
-    CHECK(mirror_filter(MIRROR_MITCHELL, 0, &w) == 0 && w == 16.0 / 18.0);
     /* no filter reaches an infinity or a NaN: +0 */
-    for (uint32_t filter = MIRROR_BOX; filter <= MIRROR_MITCHELL; filter++) {
+    for (uint32_t filter = MIRROR_BOX; filter <= MIRROR_CATMULLROM; filter++) {
         w = -1;
         CHECK(mirror_filter(filter, NAN, &w) == 0 && to_bits(w) == 0);
         w = -1;
         CHECK(mirror_filter(filter, -INFINITY, &w) == 0 && to_bits(w) == 0);
     }
+    w = -1;
+    CHECK(mirror_filter(MIRROR_MITCHELL, 0, &w) == MIRROR_RETIRED_FILTER && to_bits(w) == 0);
+    w = -1;
+    CHECK(mirror_filter(MIRROR_MITCHELL, NAN, &w) == MIRROR_RETIRED_FILTER && to_bits(w) == 0);
     w = -1;
     CHECK(mirror_filter(4, 0, &w) == MIRROR_BAD_CODE && to_bits(w) == 0);
     w = -1;

@@ -41,6 +41,18 @@ static void check_blank(void)
     CHECK(KEPT_FROM(weights, 3) && KEPT_FROM(starts, 1) && KEPT_FROM(sizes, 1));
 }
 
+/* A request that is right but for its filter. */
+static void check_retired(void)
+{
+    LENT(double, weights, 10);
+    LENT(uint32_t, starts, 2);
+    LENT(uint32_t, sizes, 2);
+    uint32_t window, line;
+    CHECK(built(2, 0, 2, 2, MIRROR_MITCHELL, LIST(weights), LIST(starts), LIST(sizes), &window, &line) == MIRROR_RETIRED_FILTER);
+    CHECK(window == 0 && line == 0 && UNCHANGED(weights) && UNCHANGED(starts) && UNCHANGED(sizes));
+    CHECK(built(2, 0, 2, 2, MIRROR_CATMULLROM, LIST(weights), LIST(starts), LIST(sizes), &window, &line) == MIRROR_DONE && window == 5);
+}
+
 static void check_refusals(void)
 {
     LENT(double, weights, 6);
@@ -62,14 +74,17 @@ static void check_refusals(void)
     REFUSED(MIRROR_TOO_FEW_SLOTS, 4, 0, 4, 2, 6, 1, 2);
     REFUSED(MIRROR_TOO_FEW_SLOTS, 4, 0, 4, 2, 6, 2, 1);
     REFUSED(MIRROR_TOO_FEW_SLOTS, 4, 0, 4, 8192, 6, 2, 2);
-#define NO_CODE(axis, filter, adapts)                                                                                                          \
+#define CODES(number, axis, filter, adapts)                                                                                                    \
     window = line = 77;                                                                                                                        \
     CHECK(mirror_weights(0, 0, NAN, 0, 0, 0, axis, 0, filter, adapts, LIST(weights), LIST(starts), LIST(sizes), &window, &line) ==            \
-              MIRROR_BAD_CODE && window == 0 && line == 0 && UNCHANGED(weights) && UNCHANGED(starts) && UNCHANGED(sizes))
-    NO_CODE(2, 0, 0);
-    NO_CODE(0, 4, 0);
-    NO_CODE(1, 3, 2);
-    NO_CODE(UINT32_MAX, UINT32_MAX, UINT32_MAX);
+              (number) && window == 0 && line == 0 && UNCHANGED(weights) && UNCHANGED(starts) && UNCHANGED(sizes))
+    CODES(MIRROR_BAD_CODE, 2, 0, 0);
+    CODES(MIRROR_BAD_CODE, 0, 4, 0);
+    CODES(MIRROR_BAD_CODE, 1, 2, 2);
+    CODES(MIRROR_BAD_CODE, UINT32_MAX, UINT32_MAX, UINT32_MAX);
+    /* the retired filter before everything else, codes that name nothing included */
+    CODES(MIRROR_RETIRED_FILTER, 0, MIRROR_MITCHELL, 0);
+    CODES(MIRROR_RETIRED_FILTER, 2, MIRROR_MITCHELL, UINT32_MAX);
 }
 
 /* Down the image, and the kernel that does not adapt. */
@@ -104,6 +119,7 @@ void check_weights(void)
 {
     check_example();
     check_blank();
+    check_retired();
     check_refusals();
     check_choices();
     check_nans();

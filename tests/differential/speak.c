@@ -8,7 +8,7 @@
 
 #include "mirror.h"
 
-enum { WORDS = 16, LONGEST = 262143, GUARD = 64, LISTS = 8 };
+enum { WORDS = 16, LONGEST = 262143, GUARD = 64, LISTS = 12 };
 #define LARGEST 1048576u
 
 /* A list between guards; `was` is a copy of one that is only read. */
@@ -53,9 +53,9 @@ static int untouched(void)
     return good;
 }
 
-static void forget(void)
+static void forget_from(int first)
 {
-    while (used > 0) {
+    while (used > first) {
         used--;
         free(lists[used].whole);
         free(lists[used].was);
@@ -188,9 +188,8 @@ static struct list *lend(char type, const char *w)
 }
 
 /* Shown after a space: x is bytes as hex. */
-static void show(char type, const struct list *l)
+static void show_items(char type, const struct list *l)
 {
-    putchar(' ');
     if (l->count == 0)
         putchar('-');
     for (size_t i = 0; i < l->count; i++) {
@@ -209,6 +208,12 @@ static void show(char type, const struct list *l)
         default: printf("%" PRIu64, bits); break;
         }
     }
+}
+
+static void show(char type, const struct list *l)
+{
+    putchar(' ');
+    show_items(type, l);
 }
 
 static int kind_of(const char *w, uint32_t *kind)
@@ -406,6 +411,24 @@ static int sheet(char **w)
     return 1;
 }
 
+static int story(char **w)
+{
+    uint32_t n[4], line, column, no;
+    uint64_t written = 77;
+    for (int i = 0; i < 4; i++)
+        OR_BAD(u32_of(w[i + 1], &n[i]));
+    struct list *ws = read_list('i', w[5], 1), *starts = ws ? read_list('u', w[6], 1) : NULL, *sizes = starts ? read_list('u', w[7], 1) : NULL;
+    struct list *over = sizes ? read_list('q', w[8], 1) : NULL, *src = over ? read_list('w', w[9], 1) : NULL;
+    OR_BAD(src && u32_of(w[10], &line) && u32_of(w[11], &column));
+    struct list *text = lend('c', w[12]);
+    OR_BAD(text);
+    no = mirror_story(at(src), src->count, n[0], n[1], at(ws), ws->count, at(starts), starts->count, at(sizes), sizes->count, at(over), over->count,
+                      n[2], n[3], line, column, at(text), text->count, &written);
+    printf("%" PRIu32 " %" PRIu64, no, written);
+    show('x', text);
+    return 1;
+}
+
 /* A text: two lowercase hexadecimal digits a byte. */
 static struct list *read_text(const char *w)
 {
@@ -500,6 +523,111 @@ static int offer(char **w)
     return 1;
 }
 
+/* The lists of a store of so many slots, and of a put's room; all zeros. */
+struct shared {
+    struct list *numbers, *slots, *starts, *sizes, *over, *doubles, *firsts, *counts;
+};
+
+#define STORE(s) at((s)->numbers), (s)->numbers->count, at((s)->slots), (s)->slots->count, at((s)->starts), (s)->starts->count, at((s)->sizes), (s)->sizes->count, at((s)->over), (s)->over->count
+#define WORK(s) at((s)->doubles), (s)->doubles->count, at((s)->firsts), (s)->firsts->count, at((s)->counts), (s)->counts->count
+
+static struct list *zeros(size_t count, size_t width)
+{
+    struct list *l = fresh(count, width);
+    memset(at(l), 0, count * width);
+    return l;
+}
+
+static int put_in(char **f, struct shared *s)
+{
+    uint32_t client, kind, n[5], window = 77, line = 77; /* adapts, axis, both sides, output */
+    double x[4];
+    OR_BAD(u32_of(f[1], &client) && kind_of(f[2], &kind));
+    for (int i = 0; i < 5; i++)
+        OR_BAD(u32_of(f[3 + i], &n[i]));
+    for (int i = 0; i < 4; i++)
+        OR_BAD(f64_of(f[8 + i], &x[i]));
+    OR_BAD(n[0] <= 1 && n[1] <= 1 && strlen(f[3]) == 1 && strlen(f[4]) == 1);
+    if (s) {
+        uint32_t no = mirror_store_put(STORE(s), client, n[2], n[3], x[0], x[1], x[2], x[3], n[1], n[4], kind, n[0], WORK(s), &window, &line);
+        printf("%" PRIu32 ":%" PRIu32 ":%" PRIu32, no, line, window);
+    }
+    return 1;
+}
+
+static int ran(char **f, struct shared *s)
+{
+    uint32_t n[4];
+    for (int i = 0; i < 4; i++)
+        OR_BAD(u32_of(f[1 + i], &n[i]));
+    uint64_t room;
+    struct list *src = read_list('w', f[5], 1), *out = src && number(f[6], 131072, &room) ? lend('w', f[6]) : NULL;
+    OR_BAD(out);
+    if (s) {
+        printf("%" PRIu32 ":", mirror_store_u16(STORE(s), n[0], at(src), src->count, n[1], n[2], n[3], at(out), out->count));
+        show_items('w', out);
+    }
+    return 1;
+}
+
+/* One call, made where there is a store; else only read. */
+static int call_of(char *text, struct shared *s)
+{
+    char *f[14];
+    int n = 0;
+    uint32_t a, b;
+    f[n++] = text;
+    for (char *p = text; n < 14 && (p = strchr(p, ':')); f[n++] = p)
+        *p++ = 0;
+    if (strcmp(f[0], "p") == 0)
+        return n == 12 && put_in(f, s);
+    if (strcmp(f[0], "u") == 0)
+        return n == 7 && ran(f, s);
+    OR_BAD(strcmp(f[0], "r") == 0 && n == 3 && u32_of(f[1], &a) && u32_of(f[2], &b));
+    if (s)
+        printf("%" PRIu32, mirror_store_restart(STORE(s), a, b));
+    return 1;
+}
+
+/* All calls, each from a copy of its text; the lists of a call are looked at and forgotten after it. */
+static int calls_of(const char *text, struct shared *s)
+{
+    int kept = used, good = 1;
+    for (const char *end; good; text = end + 1) {
+        end = strchr(text, '/');
+        size_t n = end ? (size_t)(end - text) : strlen(text);
+        char *copy = malloc(n + 1);
+        memcpy(copy, text, n);
+        copy[n] = 0;
+        good = call_of(copy, s);
+        free(copy);
+        if (s && !untouched())
+            printf(" touched");
+        forget_from(kept);
+        if (!end)
+            break;
+        if (good && s)
+            putchar('/');
+    }
+    return good;
+}
+
+static int store(char **w)
+{
+    uint64_t slots;
+    struct shared s;
+    OR_BAD(number(w[1], 131072, &slots) && calls_of(w[2], NULL));
+    s.numbers = zeros(MIRROR_STORE_NUMBERS, 4);
+    s.slots = zeros(slots, 4);
+    s.starts = zeros(MIRROR_STORE_LINES, 4);
+    s.sizes = zeros(MIRROR_STORE_LINES, 4);
+    s.over = zeros(MIRROR_STORE_LINES, 8);
+    s.doubles = zeros(slots, 8);
+    s.firsts = zeros(MIRROR_STORE_LINES / 2, 4);
+    s.counts = zeros(MIRROR_STORE_LINES / 2, 4);
+    return calls_of(w[2], &s);
+}
+
 static int one_of(const char *w, const char *names)
 {
     size_t n = strlen(w);
@@ -538,12 +666,16 @@ static int answer(char **w, int words)
         return alpha16(w, words);
     if (words == 11 && strcmp(w[0], "sheet") == 0)
         return sheet(w);
+    if (words == 13 && strcmp(w[0], "story") == 0)
+        return story(w);
     if (words == 6 && one_of(w[0], "read read16"))
         return read_sheet(w);
     if (words == 14 && strcmp(w[0], "accept") == 0)
         return accept(w);
     if (words == 10 && strcmp(w[0], "offer") == 0)
         return offer(w);
+    if (words == 3 && strcmp(w[0], "store") == 0)
+        return store(w);
     return 0;
 }
 
@@ -570,7 +702,7 @@ int main(void)
             printf("bad");
         if (!untouched())
             printf(" touched");
-        forget();
+        forget_from(0);
         putchar('\n');
     }
     free(line);

@@ -5,7 +5,7 @@ usage: stored.py ORACLE TESTFLOAT FOLDER [group ..]        (no group: all of the
 
 Writes FOLDER/GROUP.in and FOLDER/GROUP.out. TESTFLOAT is the file of TestFloat's cases (`n X floor ceil round narrow`,
 `w X widened`): their answers are stored, and the oracle has to give the same. What the oracle calls `bad` has the word and the
-reason of tests/reading; of the groups `read` and `repairs` it knows nothing, and all answers are tests/reading's. The seed is fixed: the same lines every time.
+reason of tests/reading; of the groups `read`, `repairs`, `store`, `story` and `before` it knows nothing, and all answers are tests/reading's. The seed is fixed: the same lines every time.
 """
 import os
 import random
@@ -116,7 +116,7 @@ def alpha16_group(r):
 
 
 def crop_group(r):
-    for kind in KINDS:
+    for kind in FILTERS:
         for x in (0.0, 0.5, 1.0, 1.5, 2.0):
             near = (x, TINY) if x == 0 else (step(x, -1), x, step(x, 1))
             for y in near:
@@ -126,6 +126,8 @@ def crop_group(r):
             yield "filter %s %s" % (kind, hex64(x))
         for _ in range(25):
             yield "filter %s %s" % (kind, hex64(argument(r)))
+    for x in [argument(r) for _ in range(25)][:2]:  # as many drawn as for the others, so that the lines below stay as they are
+        yield "filter mitchell %s" % hex64(x)
     one, zero = hex64(1.0), hex64(0.0)
     for text in ("1 1 %s %s %s %s" % tuple(map(hex64, n)) for n in (
             (-TINY, 0.0, 0.0, 0.0), (NAN, 0.0, 1.0, 1.0), (0.0, 0.0, NAN, 1.0), (-INF, 0.0, INF, 1.0), (0.0, 0.0, INF, 1.0), (0.0, 0.0, -INF, 1.0),
@@ -168,7 +170,6 @@ def built(kind, adapt, lines, out):
     window = 2 * math.ceil(radius) + 1
     shape_of = {"box": lambda x: 1.0 if -0.5 < x <= 0.5 else 0.0, "bilinear": lambda x: max(0.0, 1 - abs(x)),
                 "catmullrom": lambda x: 1.5 * abs(x)**3 - 2.5 * x * x + 1 if abs(x) < 1 else -0.5 * abs(x)**3 + 2.5 * x * x - 4 * abs(x) + 2 if abs(x) < 2 else 0.0}
-    shape_of["mitchell"] = lambda x: (7 * abs(x)**3 - 12 * x * x) / 6 + 16 / 18 if abs(x) < 1 else (-7 * abs(x)**3 / 18 + 2 * x * x - 10 * abs(x) / 3 + 16 / 9) if abs(x) < 2 else 0.0
     starts, sizes, slots = [], [], []
     for i in range(out):
         centre = (i + 0.5) * scale
@@ -219,7 +220,7 @@ def normalizer(r):
                 (2, 2, [1.0] * 2, [2], [1]), (2, 2, [1.0] * 2, [2**32 - 1], [1]), (2, 2, [1.0] * 2, [0], [2**32 - 1]), (2, 2, [NAN] * 2, [0], [3]), (2, 2, [INF] * 2, [0], [2])):
         for room in (0, 1, 2, 5):
             yield from norm(*bad, lent_to=room, names=("norm16", "norm32") if room == 2 else (r.choice(("norm16", "norm32")),))
-    for kind in KINDS:
+    for kind in FILTERS:
         for adapt, lines, out in ((1, 4, 2), (1, 3, 1), (0, 5, 2), (1, 2, 5), (1, 7, 3)):
             window, slots, starts, sizes = built(kind, adapt, lines, out)
             yield from norm(lines, window, slots, starts, sizes)
@@ -236,13 +237,13 @@ def build_group(r):
         return "build %s %d %d %d %d %d %s %d %d %d" % (kind, adapt, axis, w, h, out, " ".join(map(hex64, numbers)), slots, starts, sizes)
     edge_of = step(1.0, -1)
     for out in (1, 2, 5):
-        for kind in KINDS:
+        for kind in FILTERS:
             yield of(kind, 1, 0, 1, 1, out, (edge_of, 0.0, 2.0**-53, 1.0))
     yield of("box", 0, 1, 1, 1, 1, (0.0, edge_of, 1.0, 2.0**-53), 9, 4, 3)
     yield of("box", 1, 0, 1, 1, 2, (1 - 2.0**-52, 0.0, 2.0**-52, 1.0))
     yield of("box", 1, 0, 8192, 1, 1, (8192 - 2.0**-40, 0.0, 2.0**-40, 1.0))
     yield of("catmullrom", 1, 0, 2, 2, 2, (0.0, 0.0, 2.0, 2.0))
-    for kind in KINDS:
+    for kind in FILTERS:
         yield of(kind, 1, 0, 1, 1, 8, (0.0, 0.0, 5 * TINY, 1.0))
     whole = (0.0, 0.0, 4.0, 4.0)
     for out in (0, 1, 8192, 8193, 2**32 - 1):  # the output sides of 01's run rows, with little room
@@ -259,7 +260,7 @@ def build_group(r):
     for slots, starts, sizes in ((5, 2, 2), (6, 1, 2), (6, 2, 1), (0, 0, 0), (7, 2, 2), (6, 3, 2), (6, 2, 3), (6, 2, 2)):  # No. 7, and room to spare
         yield of("box", 1, 0, 4, 4, 2, whole, slots, starts, sizes)
         yield of("box", 1, 0, 1, 1, 2, (edge_of, 0.0, 2.0**-53, 1.0), slots, starts, sizes)
-    for kind in KINDS:
+    for kind in FILTERS:
         for adapt in (0, 1):
             for axis in (0, 1):
                 yield of(kind, adapt, axis, 7, 7, 3, (0.0, 0.0, 7.0, 7.0))
@@ -269,14 +270,18 @@ def build_group(r):
             yield of(kind, adapt, 0, 4, 4, 4, (0.0, 0.0, 4.0, 4.0))
             yield of(kind, adapt, 0, 8192, 8192, 3, (8192 - 9.3, 0.0, 9.3 - 2.0**-30, 8192.0))
             yield of(kind, adapt, 1, 1, 8192, 2, (0.0, 4095.5, 1.0, 7.0))
-    for kind in KINDS:
+    for kind in FILTERS:
         yield of(kind, 0, 0, 8192, 8192, 5, (0.0, 0.0, 8192.0, 8192.0))
     for _ in range(110):
         line = build(r)
         while len(line) > 400 or int(line.split()[-3]) > 60:
             line = build(r)
         yield line
-    yield of("mitchell", 1, 0, 100, 1, 1, (0.0, 0.0, 100.0, 1.0))
+    yield of("mitchell", 1, 0, 100, 1, 1, (0.0, 0.0, 100.0, 1.0))  # No. 16 of requests that are right, then before each of No. 1 to 8
+    yield of("mitchell", 0, 1, 7, 7, 3, (0.0, 0.0, 7.0, 7.0))
+    for sides, out, numbers, room in (((4, 4), 0, whole, (3, 1, 1)), ((0, 8193), 8193, whole, (0, 0, 0)), ((1, 1), 2, (NAN, 0.0, 1.0, 1.0), (6, 2, 2)), ((1, 1), 2, (0.0, 0.0, -1.0, 1.0), (6, 2, 2)), ((1, 1), 2, (0.0, -TINY, 1.0, 1.0), (6, 2, 2)),
+                                      ((1, 1), 2, (0.0, 0.0, 2.0, 1.0), (6, 2, 2)), ((1, 1), 2, (0.0, 0.0, 0.0, 1.0), (6, 2, 2)), ((4, 4), 2, whole, (0, 0, 0)), ((4, 4), 2, whole, (18, 2, 1)), ((1, 1), 1, (edge_of, 0.0, 2.0**-53, 1.0), (5, 1, 1))):
+        yield of("mitchell", 1, 0, *sides, out, numbers, *room)
     yield from ("build box 2 0 1 1 1 %s 3 1 1" % " ".join(map(hex64, (0.0, 0.0, 1.0, 1.0))), "build box 1 2 1 1 1 %s 3 1 1" % " ".join(map(hex64, (0.0, 0.0, 1.0, 1.0))),
                 "build lanczos3 1 0 1 1 1 %s 3 1 1" % " ".join(map(hex64, (0.0, 0.0, 1.0, 1.0))), "build", "")
 
@@ -564,7 +569,7 @@ def repairs_group(r):
                 yield made(store, 8, 8, 4, ws + [1] * (8 - n), [0], [n], [over], 8)
     # sets as a normaliser leaves them, our own offer judged, and one weight of it changed
     for name, most in (("norm16", 15), ("norm32", 31)):
-        for kind, lines, out in (("catmullrom", 6, 4), ("catmullrom", 5, 7), ("mitchell", 9, 4), ("bilinear", 7, 3), ("catmullrom", 3, 2), ("box", 7, 3)):
+        for kind, lines, out in (("catmullrom", 6, 4), ("catmullrom", 5, 7), ("bilinear", 9, 4), ("bilinear", 7, 3), ("catmullrom", 3, 2), ("box", 7, 3)):
             window, slots, starts, sizes = built(kind, True, lines, out)
             _, precision, weights, found = reading.answer("%s %d %d %s %s %s %d %d" % (name, lines, window, joined(slots, hex64), joined(starts), joined(sizes), len(slots), out)).split(" ")
             one = "%d %d %d %s %s %s %s %s" % (most + 1, lines, window, precision, weights, joined(starts), joined(sizes), found)
@@ -588,7 +593,101 @@ def repairs_group(r):
                 "offer 16 1 1 4 - - - - 0", "accept 16 1 1 4 - - - - 1 4 - - -", "Offer 16 1 1 4 16 0 1 0 1", "offer16 1 1 4 16 0 1 0 1", "")
 
 
-GROUPS = {"numbers": numbers, "alpha": alpha_group, "alpha16": alpha16_group, "crop": crop_group, "normalizer": normalizer, "build": build_group, "passes": passes, "sheet": sheet_group, "read": read_group, "repairs": repairs_group}
+def store_group(r):
+    """One store for two clients: shares that fit and that do not, sets that fill a share, each refusal with the former set kept, a pass of each client; calls that are none."""
+    def put(client, kind, side, out, left=0.0, width=None, adapt=0):
+        return ":".join(["p", str(client), kind, str(adapt), "0", str(side), "1", str(out), *map(hex64, (left, 0.0, float(side) if width is None else width, 1.0))])
+    def ran(client, samples, count, row=1, first=0, columns=1):
+        return "u:%d:%d:%d:%d:%s:%d" % (client, row, first, columns, joined(samples), count)
+    three, pass0, pass1 = put(0, "box", 3, 3), ran(0, [7, 8, 9], 3), ran(1, [7, 8, 9], 3)
+    yield "store 30 " + "/".join(["r:9:21", three, pass0, pass1])
+    for slots in (0, 8, 9, 17, 18, 19, 131072):  # the share to the slot, and the shares together
+        for first, second in ((9, 9), (9, 8), (8, 9), (0, slots), (slots, 0), (slots + 1, 0), (2**32 - 1, 2**32 - 1), (2**32 - 1, slots + 1)):
+            yield "store %d " % slots + "/".join(["r:%d:%d" % (first, second), three, put(1, "box", 3, 3), pass0, pass1])
+    for refused in (put(0, "box", 1, 1, 1 - 2.0**-53, 2.0**-53), put(0, "box", 4, 4), put(0, "box", 3, 0), put(0, "box", 3, 3, NAN), put(0, "box", 3, 3, 0.0, -1.0), put(0, "box", 3, 3, 3.0), put(0, "box", 3, 3, 1.0),
+                    put(0, "box", 3, 3, 1.0, 0.0), put(2, "box", 3, 3), put(2**32 - 1, "bilinear", 3, 3), put(1, "box", 3, 3), put(0, "bilinear", 5, 8), put(0, "catmullrom", 2, 2), "r:31:0", "r:30:1"):
+        yield "store 30 " + "/".join(["r:9:21", three, refused, pass0, pass1])  # the former set stays
+        yield "store 30 " + "/".join([three, refused, pass0, "r:9:21", refused, pass0, three, pass0])
+    for kind in ("box", "bilinear", "catmullrom"):
+        for adapt in (0, 1):
+            for side, out in ((6, 4), (4, 6), (1, 3), (9, 2)):
+                samples = [(7919 * i) % 65536 for i in range(2 * side)]
+                yield "store 400 " + "/".join(["r:200:200", put(0, kind, side, out, adapt=adapt), put(1, "box", 2, 2), ran(0, samples, 2 * out, 2, 0, 2), ran(0, samples, out, 2, 1, 1), put(1, kind, side, out, adapt=adapt), ran(1, samples, 2 * out, 2, 0, 2)])
+    for bad in (ran(0, [7, 8], 3), ran(0, [7, 8, 9], 2), ran(0, [7, 8, 9], 4), ran(0, [], 3), ran(0, [7, 8, 9], 0, 1, 1, 0), ran(0, [7, 8, 9], 3, 1, 1, 1), ran(0, [7, 8, 9], 3, 0), ran(0, [7, 8, 9], 3, 32769), ran(2, [7, 8, 9], 3)):
+        yield "store 18 " + "/".join(["r:9:9", three, bad, pass0])
+    yield "store 18 " + "/".join(["r:9:9", three, pass0, "r:9:9", pass0])  # a restart keeps no set
+    for client in (0, 1, 2):  # a retired filter before everything else, and the former set stays
+        yield "store 18 " + "/".join([put(client, "mitchell", 3, 0), "r:9:9", three, put(client, "mitchell", 3, 3), pass0])
+    for _ in range(120):
+        line = store(r)
+        while len(line) > 1200:
+            line = store(r)
+        yield line
+    yield from ("store", "store 1", "store 1 -", "store 1 r", "store 1 r:1", "store 1 r:1:1:1", "store 1 r:1:-1", "store 1 r:1:4294967296", "store 1 r:0:1/", "store 1 /r:0:1", "store 1 r:0:1//r:0:1", "store 131073 r:0:0", "store -1 r:0:0", "store 1 r:0:0 r:0:0",
+                "store 1 x:0:0", "store 1 p:0:box", "store 9 " + three.replace("box", "hamming"), "store 9 " + three + ":0", "store 9 u:0:1:0:1:65536:1", "store 9 u:0:1:0:1:-:131073", "store 9 u:0:1:0:1:-", "store  r:0:0", "")
+
+
+def story_group(r):
+    """Every place and room of the small domain but for most lists of excesses; each refusal alone and before another; random places."""
+    few = [line for line in every_story() if not line.endswith(" 0 0 3")]
+    yield from few
+    yield from ("story 3 1 2 4 9,8,16,5,-3,17 0,2,0 2,1,2 %s 200,100,50 0 0 200" % found for found in ("1,0,-2", "1,0,-1", "0,0,-2", "1,0", "1,0,-2,0", "-"))
+    good = [3, 2, 2, 14, [1] * 4, [0, 1], [2, 2], [2 - 2**14] * 2, [7] * 6, 1, 1, 200]
+    places = {0: (0, 8193, 2, 4), 1: (0, 32769, 1, 3), 2: (0, 1, 3, 32769, 32770), 3: (0, 3, 4, 45, 46, 2**32 - 1), 4: ([1] * 3, [1] * 5, []), 5: ([0], [], [0, 2], [0, 2**32 - 1]),
+              6: ([2], [], [2, 0], [2, 3]), 7: ([0] * 2, [2 - 2**14]), 8: ([7] * 5, [7] * 7, []), 9: (0, 2, 2**32 - 1), 10: (0, 2, 2**32 - 1), 11: (0, 1, 67)}
+    def of(words):
+        return "story " + " ".join(joined(w) if isinstance(w, list) else str(w) for w in words)
+    yield of(good)
+    for place, values in places.items():
+        for v in values:
+            yield of(good[:place] + [v] + good[place + 1:])
+    yield of([0] + good[1:9] + [9, 9, 0])   # 1 before 10
+    yield of(good[:9] + [9, 9, 0])          # 10 before 11
+    for _ in range(120):
+        line = story(r)
+        while len(line) > 600:
+            line = story(r)
+        yield line
+    yield from ("story 2 1 2 4 8,8 0 2 0 1,0 0 0", "story 2 1 2 4 8,8 0 2 0 1,0 0 0 9 9", "story 2 1 2 4 8,8 0 2 0 1,65536 0 0 9", "story 2 1 2 4 8,2147483648 0 2 0 1,0 0 0 9", "story 2 1 2 4 8,8 0 2 0 1,0 -1 0 9",
+                "story 2 1 2 4 8,8 0 2 0 1,0 0 4294967296 9", "story 2 1 2 4 8,8 0 2 0 1,0 0 0 524289", "story")
+
+
+# What `./mirror sheet mitchell 9 1.25 6.5 4 fixed 16` and the same with `adapt 32` printed while sets were still built with that filter.
+BEFORE = (
+    b"kind=mitchell\nin=9\nout=4\nwindow=5\nstore=16\nprecision=15\nw0=0,4:-1024,15195,19784,-1188\nw1=2,4:-376,27075,6368,-300\nw2=3,4:-300,6368,27075,-376\nw3=5,4:-1188,19784,15195,-1024\nexcess=-1,-1,-1,-1\n",
+    b"kind=mitchell\nin=9\nout=4\nwindow=9\nstore=32\nprecision=31\nw0=0,5:100872251,914646629,1005179277,172308751,-45523260\nw1=0,7:-619570,-44463503,363255134,1136678076,703436483,10998407,-21801379\n"
+    b"w2=2,7:-21801379,10998407,703436483,1136678076,363255134,-44463503,-619570\nw3=4,5:-45523260,172308751,1005179277,914646629,100872251\nexcess=0,0,0,0\n",
+)
+
+
+def before_group(r):
+    """Sheets of a retired filter: read, the set run through the passes, written back to the same bytes, explained and repaired."""
+    for text in BEFORE:
+        asked = "read %s 36 4 4 4" % text.hex()
+        yield asked
+        _, _, kind, lines, window, store, precision, _, slots, starts, sizes, excesses = reading.answer(asked).split(" ")
+        slots = ",".join(slots.split(",")[:4 * int(window)])
+        if store == "16":
+            yield "read16 %s 20 4 4 4" % text.hex()
+        for row, first, count, top in ((1, 0, 1, 65535), (3, 0, 3, 65535), (3, 1, 2, 65535), (2, 0, 2, 0)):
+            samples = [r.choice((0, top, r.randint(0, top))) if top else 40000 for _ in range(9 * row)]
+            yield "u16pass %s %d %d %d %s %s %s %s %s %s %s %d" % (lines, row, first, count, window, precision, slots, starts, sizes, excesses, joined(samples), 4 * count)
+            if store == "16":
+                yield "u8pass %s %d %d %d %s %s %s %s %s %s %s %d" % (lines, row, first, count, window, precision, slots, starts, sizes, excesses, joined([s >> 8 for s in samples]), 4 * count)
+        yield "sheet %s %s %s %s %s %s %s %s %s %d" % (kind, lines, window, store, precision, slots, starts, sizes, excesses, len(text))
+        # explained, repaired, and written back with its name
+        whole, flat = "%s %s %s %s %s %s %s" % (lines, window, precision, slots, starts, sizes, excesses), joined([40000] * 9)
+        yield "story %s 1 %s %s 1 0 400" % (lines, whole.split(" ", 1)[1], flat)
+        asked = "offer %s %s %d" % (store, whole, 4 * int(window))
+        yield asked
+        own = reading.answer(asked).split(" ")[2]
+        yield "accept %s %s %s %s %s %s %s" % (store, whole, window, precision, starts, sizes, own)
+        yield "u16pass %s 1 0 1 %s %s %s %s %s 0,0,0,0 %s 4" % (lines, window, precision, own, starts, sizes, flat)
+        yield "sheet %s %s %s %s %s %s %s %s 0,0,0,0 400" % (kind, lines, window, store, precision, own, starts, sizes)
+    yield ""
+
+
+GROUPS = {"numbers": numbers, "alpha": alpha_group, "alpha16": alpha16_group, "crop": crop_group, "normalizer": normalizer, "build": build_group, "passes": passes, "sheet": sheet_group, "read": read_group, "repairs": repairs_group, "store": store_group, "story": story_group, "before": before_group}
 
 
 def answers(oracle, lines):
@@ -604,7 +703,7 @@ def main():
         if name not in GROUPS:
             sys.exit("no group %s; there are %s" % (name, ", ".join(GROUPS)))
         lines = list(dict.fromkeys(GROUPS[name](random.Random(SEED))))
-        stored = [reading.answer(q) for q in lines] if name in ("read", "repairs") else answers(oracle, lines)
+        stored = [reading.answer(q) for q in lines] if name in ("read", "repairs", "store", "story", "before") else answers(oracle, lines)
         if name == "numbers":
             theirs = list(testfloat(vectors))
             ours = answers(oracle, [q for q, _ in theirs])

@@ -5,6 +5,7 @@ import frames
 import numbers_of_bits as numbers
 import reader
 import repairs
+import stores
 import weights
 
 
@@ -67,6 +68,8 @@ def doubles(n):
 
 
 def filtered(k, b):
+    if k not in weights.FILTERS:
+        raise Bad(2, "no filter")
     x = weights.FILTERS[k][0](numbers.double(b))
     return "%016x" % (numbers.NAN64 if x != x else numbers.pattern(x))
 
@@ -126,6 +129,28 @@ def counted(*a):
     return "%d %d %s" % (no, sum(map(infinite32, a[-1])) if no == 0 else 0, show(a[-1], "%08x"))
 
 
+def story(count, row, window, precision, ws, starts, sizes, excesses, samples, line, column, out):
+    windows = len(starts)
+    no = frames.shape(count, row, 0, 0, window, len(ws), starts, sizes, len(samples), 0)
+    if no == 0 and not (frames.stored(45, count, window, precision, ws, starts, sizes, excesses) and line < windows and column < row):
+        no = 10
+    text = ""
+    if no == 0:
+        total, half = 0, 2 ** (precision - 1)
+        for k in range(sizes[line]):
+            n, w = starts[line] + k, ws[line * window + k]
+            s = samples[n * row + column]
+            total += w * s
+            text += "line=%d,%d,%d,%d\n" % (n, w, s, w * s)
+        shifted = (total + half) // 2**precision
+        text += "total=%d\nhalf=%d\nshifted=%d\nclip=%s\nfinal=%d\n" % (
+            total, half, shifted, "low" if shifted < 0 else "high" if shifted > 65535 else "none", min(max(shifted, 0), 65535))
+        no = 11 if len(out) < len(text) else 0
+    if no == 0:
+        out[: len(text)] = text.encode()
+    return "%d %d %s" % (no, len(text) if no == 0 else 0, "".join("%02x" % v for v in out) or "-")
+
+
 def pattern_of(of, form):
     return lambda b: form % of(b)
 
@@ -146,6 +171,7 @@ REQUESTS |= {
     "mul8in": ((listed(u8),), pixels(frames.multiplied)), "div8in": ((listed(u8),), pixels(frames.divided)),
     "mul16": ((listed(u16), lent()), pixels(frames.multiplied16)), "div16": ((listed(u16), lent()), pixels(frames.divided16)),
     "mul16in": ((listed(u16),), pixels(frames.multiplied16)), "div16in": ((listed(u16),), pixels(frames.divided16)),
+    "story": ((u32,) * 4 + (listed(i32),) + LISTS + EXCESSES + (listed(u16), u32, u32, lent(524288)), story),
     "read": ((bytes_of,) + (lent(),) * 4, was_read((16, 32))), "read16": ((bytes_of,) + (lent(),) * 4, was_read((16,))),
 }
 
@@ -162,7 +188,7 @@ def values(words, reads):
             raise Bad(at + 1, *bad.args)
     if len(words) > len(reads) + 1:
         raise Bad(len(reads) + 2, "a word too many")
-    if kind in reads and made[0] not in weights.FILTERS:
+    if kind in reads and made[0] not in weights.NAMES:
         raise Bad(2, "no filter")
     return made
 
@@ -181,10 +207,41 @@ def stored(weight):
     return (u32, u32, u32, weight) + LISTS + EXCESSES
 
 
+def put_in(held, *a):
+    return "%d:%d:%d" % held.put(*a)
+
+
+def ran(held, *a):
+    return "%d:%s" % (held.run(*a), show(a[-1]))
+
+
+# the calls of a store: what each reads, and what it says
+CALLS = {
+    "r": ((u32, u32), lambda held, *a: str(held.restart(*a))),
+    "p": ((u32, one_of("no filter", *weights.NAMES), flag, flag, u32, u32, u32) + (b64,) * 4, put_in),
+    "u": ((u32, u32, u32, u32, listed(u16), lent()), ran),
+}
+
+
+def called(words):
+    """All calls are read before the first is made."""
+    slots, calls = values(words, (number(0, 131072, "no length up to 131072"), str))
+    read = []
+    for call in calls.split("/"):
+        name, *fields = call.split(":")
+        try:
+            read.append((CALLS[name][1], values([name] + fields, CALLS[name][0])))
+        except (KeyError, Bad):
+            raise Bad(3, "no calls of a store")
+    held = stores.Store(slots)
+    return "/".join(of(held, *made) for of, made in read)
+
+
 # requests that read their words themselves
 WHOLE = {
     "accept": by_store(lambda weight: stored(weight) + (u32, u32) + LISTS + (weight,), accepted),
     "offer": by_store(lambda weight: stored(weight) + (lent(),), offered),
+    "store": called,
 }
 
 

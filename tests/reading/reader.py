@@ -4,7 +4,7 @@ A sheet is a row of pieces, each a finite choice of texts: fixed bytes, a name, 
 read, and every right beginning can be completed (a window `0,1:0` always fits), so the longest beginning of a sheet ends in the first piece that has no choice, at
 the most bytes that it shares with one.
 """
-from weights import FILTERS
+from weights import NAMES
 
 
 class Stop(Exception):
@@ -55,7 +55,7 @@ def signed(text, at, top, end):
 
 def head(text, at):
     """Kind, lines, windows, window size, and the place after the kind line and the three size lines."""
-    kind, at = one_of(text, at, [(k, b"kind=%s\n" % k.encode()) for k in FILTERS])
+    kind, at = one_of(text, at, [(k, b"kind=%s\n" % k.encode()) for k in NAMES])
     found = [kind]
     for key, high in ((b"in=", 8192), (b"out=", 8192), (b"window=", 32769)):
         _, at = one_of(text, at, [(None, key)])

@@ -21,14 +21,8 @@ def catmullrom(x):
     return (((x - 5.0) * x + 8.0) * x - 4.0) * a if x < 2.0 else 0.0
 
 
-def mitchell(x):
-    x = abs(x)
-    if x < 1.0:
-        return (7.0 * x / 6.0 - 2.0) * x * x + 16.0 / 18.0
-    return ((2.0 - 7.0 * x / 18.0) * x - 10.0 / 3.0) * x + 16.0 / 9.0 if x < 2.0 else 0.0
-
-
-FILTERS = {"box": (box, 0.5), "bilinear": (bilinear, 1.0), "catmullrom": (catmullrom, 2.0), "mitchell": (mitchell, 2.0)}
+FILTERS = {"box": (box, 0.5), "bilinear": (bilinear, 1.0), "catmullrom": (catmullrom, 2.0)}
+NAMES = (*FILTERS, "mitchell")  # of sheets and requests; no new set is built with the last, since W-211
 
 
 def side(n):
@@ -96,6 +90,8 @@ def window_of(near, scale, radius, scaled, weigh, lines, i):
 
 def build(kind, adapts, axis, width, height, output, patterns, slots, starts, sizes):
     """Writes the three lists (slots are patterns); the number, the blank line and the window size."""
+    if kind not in FILTERS:
+        return 16, 0, 0
     if not side(output):
         return 1, 0, 0
     no = crop(width, height, patterns)

@@ -48,7 +48,7 @@ pub enum Job {
 }
 
 fn kind_of(kind: u32) -> FilterType {
-    [FilterType::Box, FilterType::Bilinear, FilterType::CatmullRom, FilterType::Mitchell][kind as usize]
+    [FilterType::Box, FilterType::Bilinear, FilterType::CatmullRom][kind as usize]
 }
 
 /// Adapting, whole side.

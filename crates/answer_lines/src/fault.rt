@@ -2,10 +2,10 @@
 use crate::emit;
 
 // The reasons, 26 bytes each, a full stop behind each.
-const REASONS: [u8; 520] =
-    *b"not a u8.                 not a u16.                not a u32.                not an i16.               not an i32.               not 16 hexadecimal digits.not 8 hexadecimal digits. not 0 or 1.               not 16 or 32.             no filter.                no length up to 131072.   no length up to 524288.   not bytes in hexadecimal. a word too many.          a word too few.           no request.               a line too long.          a carriage return.        not an i64.               malformed.                ";
+const REASONS: [u8; 546] =
+    *b"not a u8.                 not a u16.                not a u32.                not an i16.               not an i32.               not 16 hexadecimal digits.not 8 hexadecimal digits. not 0 or 1.               not 16 or 32.             no filter.                no length up to 131072.   no length up to 524288.   not bytes in hexadecimal. a word too many.          a word too few.           no request.               a line too long.          a carriage return.        not an i64.               no calls of a store.      malformed.                ";
 
-// The row of a reason, by its letter: a field's kind as request_fields has them, and s for a store, ? for no request, l for a line, r for a return.
+// The row of a reason, by its letter: a field's kind as request_fields has them, and s for a store, c for its calls, ? for no request, l for a line, r for a return.
 fn row(reason: u8) -> usize {
     match reason {
         b'b' => 0,
@@ -27,7 +27,8 @@ fn row(reason: u8) -> usize {
         b'l' => 16,
         b'r' => 17,
         b'q' => 18,
-        _ => 19,
+        b'c' => 19,
+        _ => 20,
     }
 }
 
@@ -47,8 +48,8 @@ fn reason_from(reasons: &[u8], a: usize, n: usize, out: &mut [u8]) -> usize {
 
 // Where row k begins, the last row's place for any later one.
 fn place(k: usize) -> usize {
-    if 19 < k {
-        return 494;
+    if 20 < k {
+        return 520;
     }
     k * 26
 }

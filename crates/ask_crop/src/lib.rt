@@ -4,6 +4,7 @@ mod fitting;
 use answer_lines::Said;
 use answer_lines::emit;
 use filter_fields::Kind;
+use filters::Picked;
 use request_fields::fields;
 
 // The line's answer, where it is one of these requests.
@@ -23,7 +24,7 @@ pub fn answer(line: &[u8], s: Said, out: &mut [u8]) -> Said {
     s
 }
 
-// filter KIND X
+// filter KIND X, KIND being one that can be built with
 fn filter(line: &[u8], n: usize, out: &mut [u8]) -> Said {
     let f = request_fields::first_fault(line, b"kx");
     if f.reason != 0 {
@@ -33,7 +34,11 @@ fn filter(line: &[u8], n: usize, out: &mut [u8]) -> Said {
     let Kind::Is(kind) = kind_read else {
         return answer_lines::told(answer_lines::bad(2, b'k', n, out));
     };
-    let x = filters::value(kind, fields::double(line, 2));
+    let picked = filters::pick(kind);
+    let Picked::Is(f) = picked else {
+        return answer_lines::told(answer_lines::bad(2, b'k', n, out));
+    };
+    let x = filters::value(f, fields::double(line, 2));
     answer_lines::told(emit::double(x, n, out))
 }
 

@@ -205,6 +205,30 @@ fn sheets(line: &[u8], a: Said, out: &mut [u8]) -> Said {
     )
 }
 
+// The lists of `ask_story::answer`, and nothing else: one call.
+fn stories(line: &[u8], a: Said, out: &mut [u8]) -> Said {
+    if a.done {
+        return a;
+    }
+    let mut wide = [0i32; 131072];
+    let mut starts = [0u32; 131072];
+    let mut sizes = [0u32; 131072];
+    let mut excesses = [0i64; 131072];
+    let mut samples = [0u16; 131072];
+    let mut room = [0u8; 524288];
+    ask_story::answer(
+        line,
+        a,
+        out,
+        &mut wide,
+        &mut starts,
+        &mut sizes,
+        &mut excesses,
+        &mut samples,
+        &mut room,
+    )
+}
+
 // The lists of `ask_reader::answer`, and nothing else: one call.
 fn readings(line: &[u8], a: Said, out: &mut [u8]) -> Said {
     if a.done {
@@ -249,6 +273,33 @@ fn narrow_readings(line: &[u8], a: Said, out: &mut [u8]) -> Said {
     )
 }
 
+// The lists of `ask_store::answer`, and nothing else: one call. They are not filled for another group's line.
+fn stores(line: &[u8], a: Said, out: &mut [u8]) -> Said {
+    if a.done {
+        return a;
+    }
+    if !ask_store::asked(line) {
+        return a;
+    }
+    let mut call = [0u8; 262144];
+    let mut numbers = [0u32; 10];
+    let mut slots = [0i32; 131072];
+    let mut starts = [0u32; 16384];
+    let mut sizes = [0u32; 16384];
+    let mut excesses = [0i64; 16384];
+    ask_store::answer(
+        line,
+        a,
+        out,
+        &mut call,
+        &mut numbers,
+        &mut slots,
+        &mut starts,
+        &mut sizes,
+        &mut excesses,
+    )
+}
+
 // The first of the groups.
 fn early(line: &[u8], a: Said, out: &mut [u8]) -> Said {
     let b = small_groups(line, a, out);
@@ -258,18 +309,23 @@ fn early(line: &[u8], a: Said, out: &mut [u8]) -> Said {
     windows(line, e, out)
 }
 
-// The rest of them.
+// Those about frames, and the sheet.
 fn late(line: &[u8], a: Said, out: &mut [u8]) -> Said {
     let b = frames(line, a, out);
     let c = byte_frames(line, b, out);
     let d = float_frames(line, c, out);
-    let e = sheets(line, d, out);
-    let f = readings(line, e, out);
-    narrow_readings(line, f, out)
+    sheets(line, d, out)
 }
 
-// The answer to the line at s.at .. s.to, if there is one; the output's place behind it. Repairs have their lists themselves: they are asked here, and not below the lists
-// of another group, since both together are more than a stack of 8 MB holds.
+// The rest of them.
+fn last(line: &[u8], a: Said, out: &mut [u8]) -> Said {
+    let b = readings(line, a, out);
+    let c = narrow_readings(line, b, out);
+    let d = stores(line, c, out);
+    stories(line, d, out)
+}
+
+// The answer to the line at s.at .. s.to, if there is one; the output's place behind it.
 pub(crate) fn answered(s: State, buf: &[u8], out: &mut [u8]) -> usize {
     let p = part_of(s, buf);
     let from = p.from;
@@ -279,5 +335,6 @@ pub(crate) fn answered(s: State, buf: &[u8], out: &mut [u8]) -> usize {
     let b = ask_repairs::answer(line, a, out);
     let c = early(line, b, out);
     let d = late(line, c, out);
-    ended(s.whole, d, out)
+    let e = last(line, d, out);
+    ended(s.whole, e, out)
 }

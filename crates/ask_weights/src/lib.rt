@@ -9,6 +9,7 @@ use plans::Request;
 use request_fields::f64s;
 use request_fields::fields;
 use request_fields::u32s;
+ghost use Prim.Native.Nat.{_≤_};
 
 // The line's answer, where it is this request.
 pub fn answer(
@@ -33,7 +34,15 @@ pub fn answer(
     let Kind::Is(kind) = kind_read else {
         return answer_lines::told(answer_lines::bad(2, b'k', s.n, out));
     };
-    lists(request_of(kind, line), line, s.n, out, slots, starts, sizes)
+    lists(
+        request_at(kind, line, 2),
+        line,
+        s.n,
+        out,
+        slots,
+        starts,
+        sizes,
+    )
 }
 
 // The lists are lent as long as the last three words say.
@@ -60,17 +69,28 @@ fn lists(
     )
 }
 
-// What is asked for, words 1 to 10.
-fn request_of(kind: FilterType, line: &[u8]) -> Request {
+// What is asked for: ADAPT AXIS SW SH OUT L T W H from word k on, k being small.
+pub fn request_at(kind: FilterType, line: &[u8], k: usize) -> Request {
+    let at = place(k);
     Request {
-        width: fields::whole(line, 4),
-        height: fields::whole(line, 5),
-        crop: filter_fields::box_at(line, 7, 8, 9, 10),
-        axis: axis_of(fields::flag(line, 3)),
-        output: fields::whole(line, 6),
+        width: fields::whole(line, at + 2),
+        height: fields::whole(line, at + 3),
+        crop: filter_fields::box_at(line, at + 5, at + 6, at + 7, at + 8),
+        axis: axis_of(fields::flag(line, at + 1)),
+        output: fields::whole(line, at + 4),
         filter: kind,
-        adapts: fields::flag(line, 2),
+        adapts: fields::flag(line, at),
     }
+}
+
+// A word's number, no larger than any line has.
+fn place(k: usize) -> usize
+    ensures { λ r. ⌜ r ≤ 16 ⌝ }
+{
+    if 16 < k {
+        return 16;
+    }
+    k
 }
 
 // 1 is down, 0 across.
@@ -115,22 +135,6 @@ fn show(
 // The number of the answer, the first blank line, the window size.
 fn show_built(built: Built, n: usize, out: &mut [u8]) -> usize {
     let p = emit::whole(built.number(), n, out);
-    let q = emit::next_whole(blank_line(built), p, out);
-    emit::next_whole(window(built), q, out)
-}
-
-// The first blank line, 0 where there is none.
-fn blank_line(built: Built) -> u32 {
-    match built {
-        Built::Blank(line) => line.0,
-        _ => 0,
-    }
-}
-
-// The window size, 0 beside a refusal.
-fn window(built: Built) -> u32 {
-    match built {
-        Built::Done(window) => window,
-        _ => 0,
-    }
+    let q = emit::next_whole(built.line(), p, out);
+    emit::next_whole(built.window_size(), q, out)
 }

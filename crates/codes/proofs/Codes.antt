@@ -1,4 +1,4 @@
--- A filter's code names that filter, so what a reader tells can be handed to a writer. Cited by docs/CONTRACTS.md. Assumes nothing.
+-- A name's code stands for that name, so what a reader tells can be handed to a writer; a retired name keeps its code. Cited by docs/CONTRACTS.md. Assumes nothing.
 use mathlib.Core.Path.{_≡_, refl}
 use Rattle.filters.specs.declared.FilterType.{FilterType}
 use Rattle.filters.specs.declared.FilterType.the-variants.{Box, Bilinear, CatmullRom, Mitchell}

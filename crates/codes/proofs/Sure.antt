@@ -9,6 +9,8 @@ use Rattle.codes.proofs.axis_named.Kinds as axis
 use Rattle.codes.proofs.axis_named.Reads as axis-reads
 use Rattle.codes.proofs.centring_named.Kinds as centring
 use Rattle.codes.proofs.centring_named.Reads as centring-reads
+use Rattle.codes.proofs.names_nothing.Kinds as nothing
+use Rattle.codes.proofs.names_nothing.Reads as nothing-reads
 
 pub filter-named-decides : DecidesResult filter.ps filter.r filter-reads.Post
 filter-named-decides κs a x y s t p q = p ∙ sym q
@@ -21,3 +23,6 @@ axis-named-decides κs a x y s t p q = p ∙ sym q
 
 pub centring-named-decides : DecidesResult centring.ps centring.r centring-reads.Post
 centring-named-decides κs a x y s t p q = p ∙ sym q
+
+pub names-nothing-decides : DecidesResult nothing.ps nothing.r nothing-reads.Post
+names-nothing-decides κs a x y s t p q = p ∙ sym q

@@ -1,12 +1,17 @@
--- Codes of the C interface: what each names, and the answers where a code may name nothing. No. 100 exists here only; it is judged first, and the numbers
--- beside it are 0. Cited by the contracts of `codes`, `mirror_crop`, `mirror_sets`, `mirror_sheets` and `mirror_readers`. Definitions only. Assumes nothing.
-use mathlib.Core.Bool.{Bool, cond, _||_}
+-- Codes of the C interface: what each names, and the answers where a code may name nothing. No. 100 exists here only; it is judged first but for a build with a retired filter,
+-- and the numbers beside it are 0. Cited by the contracts of `codes`, `mirror_crop`, `mirror_sets`, `mirror_sheets` and `mirror_readers`. Definitions only. Assumes nothing.
+use mathlib.Core.Bool.{Bool, cond, not, _&&_, _||_}
 use Prim.Native.Nat.{ℕ}
 use lib.Dec.{ltb, eqb}
 use lib.Ieee.{Float}
 use Rattle.floats.specs.Doubles.{zero64}
+use Rattle.refusal.specs.Refusal.{numberOf as numberOfRefusal}
+use Rattle.refusal.specs.declared.Refusal.the-variants.{RetiredFilter}
 use Rattle.filters.specs.declared.FilterType.{FilterType}
 use Rattle.filters.specs.declared.FilterType.the-variants.{Box, Bilinear, CatmullRom, Mitchell}
+use Rattle.filters.specs.declared.Picked.{Picked}
+use Rattle.filters.specs.declared.Picked.the-variants.{Is, Retired}
+use Rattle.filters.specs.Names.{pickedOf, isRetired}
 use Rattle.filters.specs.Filters.{valueOf}
 use Rattle.crop_box.specs.declared.CropBox.{CropBox}
 use Rattle.crop_fit.specs.declared.Centring.{Centring}
@@ -43,12 +48,20 @@ axisOf code = cond (eqb code 0) Across Down
 abbrev pub centringOf : ℕ → Float → Float → Centring
 centringOf code across down = cond (eqb code 0) Absent (At across down)
 
--- one filter's weight
+-- one filter's weight; a retired one has none, which is No. 16
+abbrev pub pickedNumber : Picked → ℕ
+pickedNumber (Is f) = 0
+pickedNumber Retired = numberOfRefusal RetiredFilter
+
+abbrev pub pickedWeight : Picked → Float → Float
+pickedWeight (Is f) x = valueOf f x
+pickedWeight Retired x = zero64
+
 unfoldable pub filterNumber : ℕ → ℕ
-filterNumber filter = cond (noFilter filter) badCode 0
+filterNumber filter = cond (noFilter filter) badCode (pickedNumber (pickedOf (filterOf filter)))
 
 unfoldable pub filterWeight : ℕ → Float → Float
-filterWeight filter x = cond (noFilter filter) zero64 (valueOf (filterOf filter) x)
+filterWeight filter x = cond (noFilter filter) zero64 (pickedWeight (pickedOf (filterOf filter)) x)
 
 -- the fitting
 unfoldable pub fitNumber : ℕ → ℕ → ℕ → ℕ → ℕ → Float → Float → ℕ
@@ -60,9 +73,9 @@ noBox = record { left = zero64; top = zero64; width = zero64; height = zero64 }
 unfoldable pub fitBox : ℕ → ℕ → ℕ → ℕ → ℕ → Float → Float → CropBox
 fitBox sw sh dw dh centred cx cy = cond (noFlag centred) noBox (boxOf (fitOf sw sh dw dh (centringOf centred cx cy)))
 
--- the weight builder: one of its three codes names nothing
+-- the weight builder: one of its three codes names nothing. With a retired filter axis and flag are not looked at, so that No. 16 comes before all else
 abbrev pub noCodes : ℕ → ℕ → ℕ → Bool
-noCodes axis filter adapts = (noFlag axis || noFilter filter) || noFlag adapts
+noCodes axis filter adapts = noFilter filter || (not (isRetired (filterOf filter)) && (noFlag axis || noFlag adapts))
 
 -- the request that numbers and codes make
 abbrev pub requestOf : ℕ → ℕ → Float → Float → Float → Float → ℕ → ℕ → ℕ → ℕ → Request

@@ -1,12 +1,12 @@
-// `codes`: the numbers of include/mirror.h that stand for a filter, an axis and a centring, and what each names. The crates `mirror_*` share it; each answers
+// `codes`: the numbers of include/mirror.h that stand for a filter's name, an axis and a centring, and what each names. The crates `mirror_*` share it; each answers
 // a code that names nothing itself, with `badCode`, before it asks here.
 ghost use mathlib.Core.Path.{_≡_};
-ghost use Rattle.codes.specs.Codes.{filterOf, codeOf, axisOf, centringOf};
+ghost use Rattle.codes.specs.Codes.{filterOf, codeOf, axisOf, centringOf, noCodes};
 use crop_fit::Centring;
 use filters::FilterType;
 use plans::Axis;
 
-// The filter of a code: 0 Box, 1 Bilinear, 2 CatmullRom, else Mitchell, whose code is 3. No caller asks with a code above 3.
+// The name of a code: 0 Box, 1 Bilinear, 2 CatmullRom, else Mitchell, whose code is 3. No caller asks with a code above 3.
 pub fn filter_named(code: u32) -> FilterType
     ensures answer { λ r. ⌜ r ≡ filterOf code ⌝ }
 {
@@ -22,7 +22,7 @@ pub fn filter_named(code: u32) -> FilterType
     FilterType::Mitchell
 }
 
-// The code of a filter.
+// The code of a name.
 pub fn filter_code(filter: FilterType) -> u32
     ensures answer { λ r. ⌜ r ≡ codeOf filter ⌝ }
 {
@@ -52,4 +52,12 @@ pub fn centring_named(code: u32, across: f64, down: f64) -> Centring
         return Centring::Absent;
     }
     Centring::At(across, down)
+}
+
+// Whether one of the builder's three codes names nothing. Axis and flag are not looked at where the filter is retired, which is refused before all else.
+pub fn names_nothing(axis: u32, filter: u32, adapts: u32) -> bool
+    ensures answer { λ r. ⌜ r ≡ noCodes axis filter adapts ⌝ }
+{
+    let gone = filters::retired(filter_named(filter));
+    (3 < filter) | (!gone & ((1 < axis) | (1 < adapts)))
 }

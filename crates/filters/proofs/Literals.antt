@@ -2,11 +2,10 @@
 use mathlib.Core.Path.{_≡_, refl}
 use mathlib.Core.Bool.{true, false}
 use lib.Ieee.{binary64, round, ofBits, neg}
-use Rattle.filters.specs.Literals.{two, three, four, five, six, seven, eight, nine, ten, sixteen, eighteen, minusHalf}
+use Rattle.filters.specs.Literals.{two, three, four, five, eight, minusHalf}
 
 pub literals-are :
     (two ≡ round binary64 false 2 1) × (three ≡ round binary64 false 3 1) × (four ≡ round binary64 false 4 1) × (five ≡ round binary64 false 5 1)
-    × (six ≡ round binary64 false 6 1) × (seven ≡ round binary64 false 7 1) × (eight ≡ round binary64 false 8 1) × (nine ≡ round binary64 false 9 1)
-    × (ten ≡ round binary64 false 10 1) × (sixteen ≡ round binary64 false 16 1) × (eighteen ≡ round binary64 false 18 1) × (minusHalf ≡ round binary64 true 1 2)
+    × (eight ≡ round binary64 false 8 1) × (minusHalf ≡ round binary64 true 1 2)
 unfolding ofBits round neg
-literals-are = (refl, refl, refl, refl, refl, refl, refl, refl, refl, refl, refl, refl)
+literals-are = (refl, refl, refl, refl, refl, refl)

@@ -1,19 +1,18 @@
--- The four filters, operation by operation as in the Rust: each operation is rounded once, in the order written. Cited by the contracts of
+-- The three filters that a set is built with, operation by operation as in the Rust: each operation is rounded once, in the order written. Cited by the contracts of
 -- `filters` and by the weights of the builder. Definitions only. Assumes nothing.
 use mathlib.Core.Bool.{_&&_, cond}
 use lib.Ieee.{Float, lt, le}
-use Rattle.floats.specs.Doubles.{zero64, half64, one64, _plus_, _minus_, _times_, _over_}
+use Rattle.floats.specs.Doubles.{zero64, half64, one64, _plus_, _minus_, _times_}
 use Rattle.numbers.specs.Whole.{abs}
-use Rattle.filters.specs.Literals.{two, three, four, five, six, seven, eight, nine, ten, sixteen, eighteen, minusHalf}
-use Rattle.filters.specs.declared.FilterType.{FilterType}
-use Rattle.filters.specs.declared.FilterType.the-variants.{Box, Bilinear, CatmullRom, Mitchell}
+use Rattle.filters.specs.Literals.{two, three, four, five, eight, minusHalf}
+use Rattle.filters.specs.declared.Filter.{Filter}
+use Rattle.filters.specs.declared.Filter.the-variants.{Box, Bilinear, CatmullRom}
 
--- how far from its centre a filter reaches: 0.5, 1, 2 and 2
-unfoldable pub supportOf : FilterType → Float
+-- how far from its centre a filter reaches: 0.5, 1 and 2
+unfoldable pub supportOf : Filter → Float
 supportOf Box = half64
 supportOf Bilinear = one64
 supportOf CatmullRom = two
-supportOf Mitchell = two
 
 -- 1 above -0.5 up to and including 0.5, else 0
 unfoldable pub boxOf : Float → Float
@@ -29,15 +28,8 @@ catmullRomOf y =
     (cond (lt y two) ((((y minus five) times y plus eight) times y minus four) times minusHalf)
     zero64)
 
-unfoldable pub mitchellOf : Float → Float
-mitchellOf y =
-    cond (lt y one64) ((seven times y over six minus two) times y times y plus sixteen over eighteen)
-    (cond (lt y two) (((two minus seven times y over eighteen) times y minus ten over three) times y plus sixteen over nine)
-    zero64)
-
 -- the filter's weight at the distance x
-unfoldable pub valueOf : FilterType → Float → Float
+unfoldable pub valueOf : Filter → Float → Float
 valueOf Box x = boxOf x
 valueOf Bilinear x = bilinearOf (abs x)
 valueOf CatmullRom x = catmullRomOf (abs x)
-valueOf Mitchell x = mitchellOf (abs x)

@@ -15,26 +15,8 @@ four = ofBits binary64 0x4010_0000_0000_0000
 abbrev pub five : Float
 five = ofBits binary64 0x4014_0000_0000_0000
 
-abbrev pub six : Float
-six = ofBits binary64 0x4018_0000_0000_0000
-
-abbrev pub seven : Float
-seven = ofBits binary64 0x401c_0000_0000_0000
-
 abbrev pub eight : Float
 eight = ofBits binary64 0x4020_0000_0000_0000
-
-abbrev pub nine : Float
-nine = ofBits binary64 0x4022_0000_0000_0000
-
-abbrev pub ten : Float
-ten = ofBits binary64 0x4024_0000_0000_0000
-
-abbrev pub sixteen : Float
-sixteen = ofBits binary64 0x4030_0000_0000_0000
-
-abbrev pub eighteen : Float
-eighteen = ofBits binary64 0x4032_0000_0000_0000
 
 abbrev pub minusHalf : Float
 minusHalf = neg half64

@@ -1,8 +1,14 @@
-// `filters`: the four kinds of `FilterType`; `support`, how far each reaches, and `value`, its weight at a distance. Each operation is a
-// binary64 one, rounded once, in the order of the Rust: not contracted and not rearranged, since either would change a last bit.
-ghost use mathlib.Core.Path.{_≡_};
-ghost use Rattle.filters.specs.Filters.{supportOf, boxOf, bilinearOf, catmullRomOf, mitchellOf, valueOf};
+// `filters`: `FilterType`, the four names that a sheet or a request has; `Filter`, the three that a set is built with, and `pick`, which leads from a name to its
+// filter. `support`, how far a filter reaches, and `value`, its weight at a distance: each operation is a binary64 one, rounded once, in the order of the
+// Rust: not contracted and not rearranged, since either would change a last bit.
+mod names;
 
+ghost use mathlib.Core.Path.{_≡_};
+ghost use Rattle.filters.specs.Filters.{supportOf, boxOf, bilinearOf, catmullRomOf, valueOf};
+pub use names::pick;
+pub use names::retired;
+
+// A name: what a sheet says after `kind=`, and what a request asks for.
 pub enum FilterType {
     Box,
     Bilinear,
@@ -10,15 +16,27 @@ pub enum FilterType {
     Mitchell,
 }
 
+// What a set can be built with.
+pub enum Filter {
+    Box,
+    Bilinear,
+    CatmullRom,
+}
+
+// What a name picks: a filter, or none, since it is retired.
+pub enum Picked {
+    Is(Filter),
+    Retired,
+}
+
 // How far from its centre the filter reaches.
-pub fn support(f: FilterType) -> f64
+pub fn support(f: Filter) -> f64
     ensures answer { λ r. ⌜ r ≡ supportOf f ⌝ }
 {
     match f {
-        FilterType::Box => 0.5,
-        FilterType::Bilinear => 1.0,
-        FilterType::CatmullRom => 2.0,
-        FilterType::Mitchell => 2.0,
+        Filter::Box => 0.5,
+        Filter::Bilinear => 1.0,
+        Filter::CatmullRom => 2.0,
     }
 }
 
@@ -55,27 +73,13 @@ fn catmul_filter(y: f64) -> f64
     0.0
 }
 
-// The cubic of Mitchell and Netravali with B = C = 1/3. 16 / 18 and the other quotients are rounded as the Rust rounds them.
-fn mitchell_filter(y: f64) -> f64
-    ensures answer { λ r. ⌜ r ≡ mitchellOf y ⌝ }
-{
-    if y < 1.0 {
-        return (7.0 * y / 6.0 - 2.0) * y * y + 16.0 / 18.0;
-    }
-    if y < 2.0 {
-        return ((2.0 - 7.0 * y / 18.0) * y - 10.0 / 3.0) * y + 16.0 / 9.0;
-    }
-    0.0
-}
-
 // The filter's weight at the distance x, any double. Box tells the sides apart, so it alone keeps the sign.
-pub fn value(f: FilterType, x: f64) -> f64
+pub fn value(f: Filter, x: f64) -> f64
     ensures answer { λ r. ⌜ r ≡ valueOf f x ⌝ }
 {
     match f {
-        FilterType::Box => box_filter(x),
-        FilterType::Bilinear => bilinear_filter(numbers::abs(x)),
-        FilterType::CatmullRom => catmul_filter(numbers::abs(x)),
-        FilterType::Mitchell => mitchell_filter(numbers::abs(x)),
+        Filter::Box => box_filter(x),
+        Filter::Bilinear => bilinear_filter(numbers::abs(x)),
+        Filter::CatmullRom => catmul_filter(numbers::abs(x)),
     }
 }

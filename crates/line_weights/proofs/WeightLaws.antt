@@ -8,11 +8,11 @@ use native.Mathlib.Omega.{arith}
 use lib.Dec.{eqb}
 use lib.Ieee.{Float}
 use borrow.Author.Tests.{eqb-true, eqb-false, lt-ltb}
-use Rattle.filters.specs.declared.FilterType.{FilterType}
+use Rattle.filters.specs.declared.Filter.{Filter}
 use Rattle.line_weights.specs.Weights.{upTo, weightFrom, firstWeight}
 
 -- where there are weights, the first is the first line's
-pub first-weight : (f : FilterType) (c recip : Float) (a n : ℕ) → 0 < n → firstWeight f c recip a n ≡ weightFrom f c recip a 0
+pub first-weight : (f : Filter) (c recip : Float) (a n : ℕ) → 0 < n → firstWeight f c recip a n ≡ weightFrom f c recip a 0
 unfolding firstWeight
 first-weight f c recip a n h = rw (lt-ltb 0 n h, add-zero)
 

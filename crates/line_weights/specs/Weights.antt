@@ -7,36 +7,36 @@ use lib.Dec.{ltb}
 use lib.Ieee.{Float, nan, eq}
 use lib.ListN.{getD}
 use Rattle.lists.specs.Tab.{first, turns}
-use Rattle.filters.specs.declared.FilterType.{FilterType}
+use Rattle.filters.specs.declared.Filter.{Filter}
 use Rattle.filters.specs.Filters.{valueOf}
 use Rattle.floats.specs.Doubles.{zero64, double, _plus_, _minus_, _times_, _over_}
 
 -- the weight of the camera line x
-unfoldable pub lineWeight : FilterType → Float → Float → ℕ → Float
+unfoldable pub lineWeight : Filter → Float → Float → ℕ → Float
 lineWeight f c recip x = valueOf f ((double x minus c) times recip)
 
 -- a weight other than 0 (minus zero is 0)
-abbrev pub weighs : FilterType → Float → Float → ℕ → Bool
+abbrev pub weighs : Filter → Float → Float → ℕ → Bool
 weighs f c recip x = not (eq (lineWeight f c recip x) zero64)
 
 -- leading zeros dropped: the first line of the range that weighs; the range's end if none does
-unfoldable pub leadOf : FilterType → Float → Float → ℕ → ℕ → ℕ
+unfoldable pub leadOf : Filter → Float → Float → ℕ → ℕ → ℕ
 leadOf f c recip start stop = first (weighs f c recip) start (stop - start)
 
 -- the weights from the line a on
-abbrev pub weightFrom : FilterType → Float → Float → ℕ → ℕ → Float
+abbrev pub weightFrom : Filter → Float → Float → ℕ → ℕ → Float
 weightFrom f c recip a k = lineWeight f c recip (a + k)
 
 -- the first of n weights from the line a on; +0 where there are none
-unfoldable pub firstWeight : FilterType → Float → Float → ℕ → ℕ → Float
+unfoldable pub firstWeight : Filter → Float → Float → ℕ → ℕ → Float
 firstWeight f c recip a n = cond (ltb 0 n) (lineWeight f c recip a) zero64
 
 -- one more weight added, in line order
-abbrev pub addTo : FilterType → Float → Float → ℕ → Float → ℕ → Float
+abbrev pub addTo : Filter → Float → Float → ℕ → Float → ℕ → Float
 addTo f c recip a t k = t plus weightFrom f c recip a k
 
 -- the running total of n weights in line order, from +0
-unfoldable pub totalOf : FilterType → Float → Float → ℕ → ℕ → Float
+unfoldable pub totalOf : Filter → Float → Float → ℕ → ℕ → Float
 totalOf f c recip a n = turns (addTo f c recip a) zero64 n
 
 -- how many of 0, .., n - 1 are left once those at the end that fail the test are dropped
@@ -45,11 +45,11 @@ upTo t zero = 0
 upTo t (suc n) = cond (t n) (suc n) (upTo t n)
 
 -- whether the k-th line from a on weighs
-abbrev pub weighsFrom : FilterType → Float → Float → ℕ → ℕ → Bool
+abbrev pub weighsFrom : Filter → Float → Float → ℕ → ℕ → Bool
 weighsFrom f c recip a k = weighs f c recip (a + k)
 
 -- trailing zeros dropped from the size
-unfoldable pub sizeOf : FilterType → Float → Float → ℕ → ℕ → ℕ
+unfoldable pub sizeOf : Filter → Float → Float → ℕ → ℕ → ℕ
 sizeOf f c recip a n = upTo (weighsFrom f c recip a) n
 
 -- the slot k at the end: its weight's share of the total, or +0 past the n weights. A dropped zero at the end is divided too

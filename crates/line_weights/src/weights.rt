@@ -7,18 +7,18 @@ ghost use Rattle.lists.specs.Tab.{tab, front};
 ghost use Rattle.line_weights.specs.Weights.{lineWeight, leadOf, firstWeight, weightFrom, totalOf, upTo, shareOf};
 ghost use Rattle.line_weights.specs.Weights.{weighty, shareAt};
 use crate::Weighed;
-use filters::FilterType;
+use filters::Filter;
 use windows::CameraLine;
 
 // The weight of the camera line x, before the division; c is the centre less 0.5.
-fn line_weight(f: FilterType, c: f64, recip: f64, x: CameraLine) -> f64
+fn line_weight(f: Filter, c: f64, recip: f64, x: CameraLine) -> f64
     ensures answer { λ r. ⌜ r ≡ lineWeight f c recip (x .0) ⌝ }
 {
     filters::value(f, (x.0 as f64 - c) * recip)
 }
 
 // The first line of the range whose weight is not 0, or its end: leading zeros are dropped. Its weight goes with it, so that `weigh` need not work it out.
-pub fn lead(f: FilterType, c: f64, recip: f64, start: CameraLine, stop: CameraLine) -> Weighed
+pub fn lead(f: Filter, c: f64, recip: f64, start: CameraLine, stop: CameraLine) -> Weighed
     ensures answer { λ r. ⌜ (r .line .0 ≡ leadOf f c recip (start .0) (stop .0)) × (r .weight ≡ firstWeight f c recip (r .line .0) (stop .0 - r .line .0)) ⌝ }
 {
     let mut x = start.0;
@@ -39,7 +39,7 @@ pub fn lead(f: FilterType, c: f64, recip: f64, start: CameraLine, stop: CameraLi
 }
 
 // The weights of n lines from the line a on, the first of them known, into the first n slots; their total, in line order from +0.
-pub fn weigh(f: FilterType, c: f64, recip: f64, a: Weighed, n: usize, row: &mut [f64]) -> f64
+pub fn weigh(f: Filter, c: f64, recip: f64, a: Weighed, n: usize, row: &mut [f64]) -> f64
     requires { ⌜ (n ≤ length (now row)) × (a .line .0 + n < 2 ^ 32) × (a .weight ≡ firstWeight f c recip (a .line .0) n) ⌝ }
     ensures answer { λ r. ⌜ r ≡ totalOf f c recip (a .line .0) n ⌝ }
     ensures written { λ _. ⌜ now (row .exit) ≡ front n (weightFrom f c recip (a .line .0)) (now (row .entry)) ⌝ }

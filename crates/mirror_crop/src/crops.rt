@@ -6,18 +6,24 @@ use crate::answers::fitted_box;
 use codes::centring_named;
 use codes::filter_named;
 use crop_box::CropBox;
+use filters::Picked;
+use refusal::Refusal;
 
-// The filter's weight at x, in `weight`.
+// The filter's weight at x, in `weight`; a retired filter has none.
 #[no_mangle]
 pub extern "C" fn mirror_filter(filter: u32, x: f64, weight: &mut f64) -> u32
     ensures answer { λ r. ⌜ r ≡ filterNumber filter ⌝ }
     ensures written { λ _. ⌜ now (weight .exit) ≡ filterWeight filter x ⌝ }
 {
+    *weight = 0.0;
     if 3 < filter {
-        *weight = 0.0;
         return 100;
     }
-    *weight = filters::value(filter_named(filter), x);
+    let picked = filters::pick(filter_named(filter));
+    let Picked::Is(f) = picked else {
+        return refusal::number(Refusal::RetiredFilter);
+    };
+    *weight = filters::value(f, x);
     0
 }
 

@@ -5,10 +5,9 @@ ghost use lib.ListN.{length};
 ghost use Rattle.coefficients.specs.Answer.{numberOf, windowOf, lineOf};
 ghost use Rattle.coefficients.specs.Request.{builtOf, weightsOf, startsOf, sizesOf};
 ghost use Rattle.codes.specs.Codes.{badCode, noCodes, requestOf};
-use crate::answers::blank_line;
-use crate::answers::built_window;
 use codes::axis_named;
 use codes::filter_named;
+use codes::names_nothing;
 use crop_box::CropBox;
 use plans::Request;
 
@@ -38,7 +37,7 @@ pub extern "C" fn mirror_weights(
     ensures written4 { λ _. ⌜ now (window .exit) ≡ cond (noCodes axis filter adapts) 0 (windowOf (builtOf (requestOf «image_width» «image_height» left top width height axis «out_side» filter adapts) (length (now (weights .entry))) (length (now (starts .entry))) (length (now (sizes .entry))))) ⌝ }
     ensures written5 { λ _. ⌜ now (line .exit) ≡ cond (noCodes axis filter adapts) 0 (lineOf (builtOf (requestOf «image_width» «image_height» left top width height axis «out_side» filter adapts) (length (now (weights .entry))) (length (now (starts .entry))) (length (now (sizes .entry))))) ⌝ }
 {
-    if (1 < axis) | (3 < filter) | (1 < adapts) {
+    if names_nothing(axis, filter, adapts) {
         *window = 0;
         *line = 0;
         return 100;
@@ -58,7 +57,7 @@ pub extern "C" fn mirror_weights(
         adapts: adapts == 1,
     };
     let answer = coefficients::build(request, weights, starts, sizes);
-    *window = built_window(answer);
-    *line = blank_line(answer);
+    *window = answer.window_size();
+    *line = answer.line();
     answer.number()
 }

@@ -1,3 +1,4 @@
+pub mod NameFirst
 pub mod Bounds
 pub mod CropLaws
 pub mod PlanLaws

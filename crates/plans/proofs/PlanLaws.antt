@@ -1,5 +1,5 @@
 -- A plan made from a request that was not refused is `Sound`: from the crop's tests, through `Bounds`, to the radius, the window size and every centre.
--- And what `prepare` gave is `planOf`. Cited by the proofs of `prepare` and `build`, and by BuiltLaws. Assumes nothing.
+-- And what `plan_with` gave is `planWith`. Cited by the proofs of `plan_with` and `build`, and by BuiltLaws. Assumes nothing.
 use mathlib.Core.Path.{_≡_, refl, ap, _∙_, subst}
 use mathlib.Core.Bool.{Bool, true, false, _||_, cond}
 use Prim.Native.Nat.{ℕ, _+_, _*_, _^_, _≤_, _<_}
@@ -19,13 +19,16 @@ use Rattle.numbers.specs.Window.{window}
 use Rattle.floats.proofs.Integers.{int, within-mul}
 use Rattle.numbers.proofs.Ranges.{half-within}
 use Rattle.refusal.specs.declared.Refusal.{Refusal}
-use Rattle.refusal.specs.declared.Refusal.the-variants.{BadSide, NoScale}
+use Rattle.refusal.specs.declared.Refusal.the-variants.{BadSide, NoScale, RetiredFilter}
 use Rattle.crop_box.specs.declared.CropBox.{CropBox}
 use Rattle.crop_box.specs.declared.Cropped.{Cropped}
 use Rattle.crop_box.specs.declared.Cropped.the-variants.{Inside, Refused as CropRefused}
 use Rattle.crop_box.specs.Crop.{cropOf}
-use Rattle.filters.specs.declared.FilterType.{FilterType}
-use Rattle.filters.specs.declared.FilterType.the-variants.{Box, Bilinear, CatmullRom, Mitchell}
+use Rattle.filters.specs.declared.Filter.{Filter}
+use Rattle.filters.specs.declared.Filter.the-variants.{Box, Bilinear, CatmullRom}
+use Rattle.filters.specs.declared.Picked.{Picked}
+use Rattle.filters.specs.declared.Picked.the-variants.{Is, Retired}
+use Rattle.filters.specs.Names.{pickedOf}
 use Rattle.filters.specs.Filters.{supportOf}
 use Rattle.floats.specs.Doubles.{zero64, half64, one64}
 use Rattle.plans.specs.declared.Axis.{Axis}
@@ -36,7 +39,7 @@ use Rattle.plans.specs.declared.Plan.{Plan}
 use Rattle.plans.specs.declared.Planned.the-variants.{Ready, Refused}
 use Rattle.plans.specs.Plan.{centre}
 use Rattle.plans.specs.Inner.{Sound}
-use Rattle.plans.specs.Plan.{edgeOf, scaleOf, filterScaleOf, radiusOf, planFor, scaled, afterCrop, planOf, badOutput, noScale}
+use Rattle.plans.specs.Plan.{edgeOf, scaleOf, filterScaleOf, radiusOf, planFor, scaled, afterCrop, planWith, planBy, planOf, badOutput, noScale}
 use Rattle.plans.proofs.Bounds.{Clear, within-mono, clear-mono, add-within, near-is-clear, scale-within}
 use Rattle.plans.proofs.CropLaws.{Both, crop-passed}
 
@@ -70,14 +73,13 @@ filter-within true scale w = go (lt one64 scale)
     go true = w
     go false = one-within
 
-support-within : (f : FilterType) → Within (supportOf f) 2
+support-within : (f : Filter) → Within (supportOf f) 2
 unfolding supportOf ofBits
 support-within Box = lit≤ tt
 support-within Bilinear = lit≤ tt
 support-within CatmullRom = lit≤ tt
-support-within Mitchell = lit≤ tt
 
-pub radius-within : (f : FilterType) (adapts : Bool) (scale : Float) → Within scale 8192 → Within (radiusOf f adapts scale) (2 ^ 14)
+pub radius-within : (f : Filter) (adapts : Bool) (scale : Float) → Within scale 8192 → Within (radiusOf f adapts scale) (2 ^ 14)
 unfolding radiusOf
 radius-within f adapts scale w = within-mul (supportOf f) (filterScaleOf adapts scale) 2 8192 (support-within f) (filter-within adapts scale w) (lit≤ tt)
 
@@ -91,7 +93,7 @@ unfolding window
 window-small r w = let l = ceil-small r (ceil binary64 r) w refl in omega arith
 
 -- ---- the plan
-pub sound : (f : FilterType) (adapts : Bool) (e : Edge) (n : ℕ) → n ≤ 8192 → e .side ≤ 8192 → Clear (e .near) 8192 → Within (scaleOf e n) 8192 → Sound (planFor f adapts e n)
+pub sound : (f : Filter) (adapts : Bool) (e : Edge) (n : ℕ) → n ≤ 8192 → e .side ≤ 8192 → Clear (e .near) 8192 → Within (scaleOf e n) 8192 → Sound (planFor f adapts e n)
 unfolding centre ofInt
 sound f adapts e n l s near w =
     let r = radius-within f adapts (scaleOf e n) w in
@@ -129,55 +131,66 @@ unlike refusal p h = let z : _≡_ {A = ℕ} 0 1 = cc in omega arith
 ready : (x y : Plan) → Ready x ≡ Ready y → x ≡ y
 ready x y h = cc
 
-after-by : (q : Request) (p : Plan) (Good : Plan → Type 0) (c : Cropped) → cropOf (q .width) (q .height) (q .crop) ≡ c
-    → ((b : CropBox) → Both (q .width) (q .height) b → noScale (edgeOf (q .axis) (q .width) (q .height) b) (q .output) ≡ false → Good (planFor (q .filter) (q .adapts) (edgeOf (q .axis) (q .width) (q .height) b) (q .output)))
-    → afterCrop q c ≡ Ready p → Good p
+after-by : (f : Filter) (q : Request) (p : Plan) (Good : Plan → Type 0) (c : Cropped) → cropOf (q .width) (q .height) (q .crop) ≡ c
+    → ((b : CropBox) → Both (q .width) (q .height) b → noScale (edgeOf (q .axis) (q .width) (q .height) b) (q .output) ≡ false → Good (planFor f (q .adapts) (edgeOf (q .axis) (q .width) (q .height) b) (q .output)))
+    → afterCrop f q c ≡ Ready p → Good p
 unfolding afterCrop scaled
-after-by q p Good (CropRefused refusal) e good h = absurd (unlike refusal p h)
-after-by q p Good (Inside b) e good h =
+after-by f q p Good (CropRefused refusal) e good h = absurd (unlike refusal p h)
+after-by f q p Good (Inside b) e good h =
     let ed = edgeOf (q .axis) (q .width) (q .height) b in
     let s = ladder (noScale ed (q .output)) (unlike NoScale p) h in
-    subst Good (ready (planFor (q .filter) (q .adapts) ed (q .output)) p (s .1)) (good b (crop-passed (q .width) (q .height) (q .crop) b e) (s .0))
+    subst Good (ready (planFor f (q .adapts) ed (q .output)) p (s .1)) (good b (crop-passed (q .width) (q .height) (q .crop) b e) (s .0))
 
--- a plan was made from a box that passed the crop, with a scale above 0 and an output side in its range: what holds of every such plan holds of it
-pub plan-by : (q : Request) (p : Plan) (Good : Plan → Type 0)
-    → ((b : CropBox) → Both (q .width) (q .height) b → 0 < q .output → q .output ≤ 8192 → Within (scaleOf (edgeOf (q .axis) (q .width) (q .height) b) (q .output)) 8192 → Good (planFor (q .filter) (q .adapts) (edgeOf (q .axis) (q .width) (q .height) b) (q .output)))
-    → planOf q ≡ Ready p → Good p
-unfolding planOf
-plan-by q p Good good e =
+with-by : (f : Filter) (q : Request) (p : Plan) (Good : Plan → Type 0)
+    → ((b : CropBox) → Both (q .width) (q .height) b → 0 < q .output → q .output ≤ 8192 → Within (scaleOf (edgeOf (q .axis) (q .width) (q .height) b) (q .output)) 8192 → Good (planFor f (q .adapts) (edgeOf (q .axis) (q .width) (q .height) b) (q .output)))
+    → planWith f q ≡ Ready p → Good p
+unfolding planWith
+with-by f q p Good good e =
     let s1 = ladder (badOutput (q .output)) (unlike BadSide p) e in
     let o = output-in (q .output) (s1 .0) in
-    after-by q p Good (cropOf (q .width) (q .height) (q .crop)) refl (λ b ok z. good b ok (o .0) (o .1) (edge-scale (q .axis) (q .width) (q .height) (q .output) b ok (o .0) (o .1) z)) (s1 .1)
+    after-by f q p Good (cropOf (q .width) (q .height) (q .crop)) refl (λ b ok z. good b ok (o .0) (o .1) (edge-scale (q .axis) (q .width) (q .height) (q .output) b ok (o .0) (o .1) z)) (s1 .1)
+
+-- a plan was made with the filter that the request's name picks, from a box that passed the crop, with a scale above 0 and an output side in its range: what holds of
+-- every such plan holds of it
+pub plan-by : (q : Request) (p : Plan) (Good : Plan → Type 0)
+    → ((f : Filter) → pickedOf (q .filter) ≡ Is f → (b : CropBox) → Both (q .width) (q .height) b → 0 < q .output → q .output ≤ 8192 → Within (scaleOf (edgeOf (q .axis) (q .width) (q .height) b) (q .output)) 8192 → Good (planFor f (q .adapts) (edgeOf (q .axis) (q .width) (q .height) b) (q .output)))
+    → planOf q ≡ Ready p → Good p
+unfolding planOf
+plan-by q p Good good = go (pickedOf (q .filter)) refl
+  where
+    go : (x : Picked) → pickedOf (q .filter) ≡ x → planBy q x ≡ Ready p → Good p
+    go Retired is h = absurd (unlike RetiredFilter p h)
+    go (Is f) is h = with-by f q p Good (good f is) h
 
 pub plan-sound : (q : Request) (p : Plan) → planOf q ≡ Ready p → Sound p
 plan-sound q p =
     plan-by q p Sound
-    (λ b ok some few w.
-    sound (q .filter) (q .adapts) (edgeOf (q .axis) (q .width) (q .height) b) (q .output) few
+    (λ f is b ok some few w.
+    sound f (q .adapts) (edgeOf (q .axis) (q .width) (q .height) b) (q .output) few
     (edge-side (q .axis) (q .width) (q .height) b ok) (edge-near (q .axis) (q .width) (q .height) b ok) w)
 
--- ---- what `prepare` gave is `planOf`
-module _ (q : Request) (b : CropBox) (inside : cropOf (q .width) (q .height) (q .crop) ≡ Inside b) (output : ltb (q .output) 1 || ltb 8192 (q .output) ≡ false) where
-  to-scaled : scaled (q .filter) (q .adapts) (edgeOf (q .axis) (q .width) (q .height) b) (q .output) ≡ planOf q
-  unfolding planOf afterCrop
+-- ---- what `plan_with` gave is `planWith`
+module _ (f : Filter) (q : Request) (b : CropBox) (inside : cropOf (q .width) (q .height) (q .crop) ≡ Inside b) (output : ltb (q .output) 1 || ltb 8192 (q .output) ≡ false) where
+  to-scaled : scaled f (q .adapts) (edgeOf (q .axis) (q .width) (q .height) b) (q .output) ≡ planWith f q
+  unfolding planWith afterCrop
   to-scaled = rw (output, inside)
 
   module _ (e : Edge) (edge : e ≡ edgeOf (q .axis) (q .width) (q .height) b) where
-    pub plan-flat : le (scaleOf e (q .output)) zero64 ≡ true → Refused NoScale ≡ planOf q
+    pub plan-flat : le (scaleOf e (q .output)) zero64 ≡ true → Refused NoScale ≡ planWith f q
     unfolding scaled
     plan-flat l = let m = rw edge at l in rw (← to-scaled, m)
 
-    pub radius-ok : (s k : Float) → le (scaleOf e (q .output)) zero64 ≡ false → s ≡ supportOf (q .filter) → k ≡ filterScaleOf (q .adapts) (scaleOf e (q .output)) → Within (mul binary64 s k) (2 ^ 14)
+    pub radius-ok : (s k : Float) → le (scaleOf e (q .output)) zero64 ≡ false → s ≡ supportOf f → k ≡ filterScaleOf (q .adapts) (scaleOf e (q .output)) → Within (mul binary64 s k) (2 ^ 14)
     unfolding radiusOf
     radius-ok s k l es ek =
         let ok = crop-passed (q .width) (q .height) (q .crop) b inside in
         let m : le (scaleOf (edgeOf (q .axis) (q .width) (q .height) b) (q .output)) zero64 ≡ false = rw edge at l in
         let w = edge-scale (q .axis) (q .width) (q .height) (q .output) b ok (output-in (q .output) output .0) (output-in (q .output) output .1) m in
-        rw (es, ek, edge) (radius-within (q .filter) (q .adapts) (scaleOf (edgeOf (q .axis) (q .width) (q .height) b) (q .output)) w)
+        rw (es, ek, edge) (radius-within f (q .adapts) (scaleOf (edgeOf (q .axis) (q .width) (q .height) b) (q .output)) w)
 
-    pub plan-is : (s k : Float) (z : ℕ) → le (scaleOf e (q .output)) zero64 ≡ false → s ≡ supportOf (q .filter) → k ≡ filterScaleOf (q .adapts) (scaleOf e (q .output)) → z ≡ window (mul binary64 s k)
+    pub plan-is : (s k : Float) (z : ℕ) → le (scaleOf e (q .output)) zero64 ≡ false → s ≡ supportOf f → k ≡ filterScaleOf (q .adapts) (scaleOf e (q .output)) → z ≡ window (mul binary64 s k)
         → Ready (record {
-          filter = q .filter;
+          filter = f;
           side = e .side;
           output = q .output;
           near = e .near;
@@ -185,7 +198,7 @@ module _ (q : Request) (b : CropBox) (inside : cropOf (q .width) (q .height) (q 
           recip = div binary64 one64 k;
           radius = mul binary64 s k;
           window = z;
-        }) ≡ planOf q
+        }) ≡ planWith f q
     unfolding scaled radiusOf
     plan-is s k z l es ek ez =
         let m : le (scaleOf (edgeOf (q .axis) (q .width) (q .height) b) (q .output)) zero64 ≡ false = rw edge at l in

@@ -5,12 +5,15 @@ use Prim.Native.Nat.{ℕ}
 use lib.Ieee.{Float, lt, le}
 use Rattle.lists.specs.Ranges.{outside}
 use Rattle.numbers.specs.Window.{window}
-use Rattle.refusal.specs.declared.Refusal.the-variants.{BadSide, NoScale}
+use Rattle.refusal.specs.declared.Refusal.the-variants.{BadSide, NoScale, RetiredFilter}
 use Rattle.crop_box.specs.declared.CropBox.{CropBox}
 use Rattle.crop_box.specs.declared.Cropped.{Cropped}
 use Rattle.crop_box.specs.declared.Cropped.the-variants.{Inside, Refused as CropRefused}
 use Rattle.crop_box.specs.Crop.{cropOf}
-use Rattle.filters.specs.declared.FilterType.{FilterType}
+use Rattle.filters.specs.declared.Filter.{Filter}
+use Rattle.filters.specs.declared.Picked.{Picked}
+use Rattle.filters.specs.declared.Picked.the-variants.{Is, Retired}
+use Rattle.filters.specs.Names.{pickedOf}
 use Rattle.filters.specs.Filters.{supportOf}
 use Rattle.floats.specs.Doubles.{zero64, half64, one64, double, _plus_, _minus_, _times_, _over_}
 use Rattle.plans.specs.declared.Axis.{Axis}
@@ -35,11 +38,11 @@ unfoldable pub filterScaleOf : Bool → Float → Float
 filterScaleOf adapts scale = cond adapts (cond (lt one64 scale) scale one64) one64
 
 -- support x filter scale
-unfoldable pub radiusOf : FilterType → Bool → Float → Float
+unfoldable pub radiusOf : Filter → Bool → Float → Float
 radiusOf f adapts scale = supportOf f times filterScaleOf adapts scale
 
 -- what all windows of a request share; the window size is 2 x ceiling(radius) + 1
-abbrev pub planFor : FilterType → Bool → Edge → ℕ → Plan
+abbrev pub planFor : Filter → Bool → Edge → ℕ → Plan
 planFor f adapts e output = record {
   filter = f;
   side = e .side;
@@ -60,17 +63,26 @@ abbrev pub noScale : Edge → ℕ → Bool
 noScale e output = le (scaleOf e output) zero64
 
 -- the plan, or No. 6
-unfoldable pub scaled : FilterType → Bool → Edge → ℕ → Planned
+unfoldable pub scaled : Filter → Bool → Edge → ℕ → Planned
 scaled f adapts e output = cond (noScale e output) (Refused NoScale) (Ready (planFor f adapts e output))
 
 -- a refused crop ends the request with the crop's own number
-unfoldable pub afterCrop : Request → Cropped → Planned
-afterCrop q (Inside b) = scaled (q .filter) (q .adapts) (edgeOf (q .axis) (q .width) (q .height) b) (q .output)
-afterCrop q (CropRefused refusal) = Refused refusal
+unfoldable pub afterCrop : Filter → Request → Cropped → Planned
+afterCrop f q (Inside b) = scaled f (q .adapts) (edgeOf (q .axis) (q .width) (q .height) b) (q .output)
+afterCrop f q (CropRefused refusal) = Refused refusal
 
--- No. 1 of the output side first, then the crop's 1 to 5, then 6
+-- with a filter: No. 1 of the output side first, then the crop's 1 to 5, then 6
+unfoldable pub planWith : Filter → Request → Planned
+planWith f q = cond (badOutput (q .output)) (Refused BadSide) (afterCrop f q (cropOf (q .width) (q .height) (q .crop)))
+
+-- with what its name picks: a retired name is No. 16, whatever else is asked
+abbrev pub planBy : Request → Picked → Planned
+planBy q Retired = Refused RetiredFilter
+planBy q (Is f) = planWith f q
+
+-- No. 16 before every other number
 unfoldable pub planOf : Request → Planned
-planOf q = cond (badOutput (q .output)) (Refused BadSide) (afterCrop q (cropOf (q .width) (q .height) (q .crop)))
+planOf q = planBy q (pickedOf (q .filter))
 
 -- the centre of the display line i: near + (i + 0.5) x scale
 unfoldable pub centre : Plan → ℕ → Float

@@ -1,4 +1,4 @@
-// `plans`: from a request for a weight set to the plan of its windows (edges, scale, radius, window size), or its refusal, No. 1 to 6. For `coefficients`.
+// `plans`: from a request for a weight set to the plan of its windows (edges, scale, radius, window size), or its refusal, No. 16, then 1 to 6. For `coefficients`.
 mod planning;
 
 pub use planning::planned_refusal;
@@ -11,7 +11,7 @@ pub enum Axis {
     Down,
 }
 
-// What is asked: both image sides, the crop box, one axis and its output side, the filter, and whether the kernel adapts.
+// What is asked: both image sides, the crop box, one axis and its output side, the filter's name, and whether the kernel adapts.
 pub struct Request {
     pub width: u32,
     pub height: u32,
@@ -31,7 +31,7 @@ pub struct Edge {
 
 // The numbers that all windows of a request share; `recip` is one over the filter scale.
 pub struct Plan {
-    pub filter: filters::FilterType,
+    pub filter: filters::Filter,
     pub side: u32,
     pub output: u32,
     pub near: f64,

@@ -1,15 +1,17 @@
-// From a request to the plan of its windows, or its refusal, No. 1 to 6.
+// From a request to the plan of its windows, or its refusal, No. 16, then 1 to 6.
 ghost use mathlib.Core.Path.{_≡_};
 ghost use Prim.Native.Nat.{_≤_, _^_};
 ghost use Rattle.floats.specs.Within.{Within};
 ghost use Rattle.numbers.specs.Window.{window};
-ghost use Rattle.plans.specs.Plan.{edgeOf, filterScaleOf, planOf};
+ghost use Rattle.plans.specs.Plan.{edgeOf, filterScaleOf, planWith, planOf};
 ghost use Rattle.plans.specs.Inner.{cropRefusal, plannedRefusal};
 use crate::Axis;
 use crate::Edge;
 use crate::Plan;
 use crate::Planned;
 use crate::Request;
+use filters::Filter;
+use filters::Picked;
 use refusal::Refusal;
 
 // The crop along the axis: the image side, the near edge and the far edge.
@@ -70,9 +72,9 @@ pub fn planned_refusal(planned: Planned, other: Refusal) -> Refusal
     }
 }
 
-// The plan, or the refusal: of the output side, then the crop's own, then of the scale.
-pub fn prepare(request: Request) -> Planned
-    ensures answer { λ r. ⌜ r ≡ planOf request ⌝ }
+// The plan with a filter, or the refusal: of the output side, then the crop's own, then of the scale.
+fn plan_with(f: Filter, request: Request) -> Planned
+    ensures answer { λ r. ⌜ r ≡ planWith f request ⌝ }
 {
     let output = request.output;
     if (output < 1) | (8192 < output) {
@@ -89,7 +91,6 @@ pub fn prepare(request: Request) -> Planned
     if scale <= 0.0 {
         return Planned::Refused(Refusal::NoScale);
     }
-    let f = request.filter;
     let wide = filter_scale(request.adapts, scale);
     let radius = filters::support(f) * wide;
     let size = window_size(radius);
@@ -103,4 +104,16 @@ pub fn prepare(request: Request) -> Planned
         radius: radius,
         window: size,
     })
+}
+
+// The plan with the filter that the request names. A retired name is refused before anything else is looked at.
+pub fn prepare(request: Request) -> Planned
+    ensures answer { λ r. ⌜ r ≡ planOf request ⌝ }
+{
+    let kind = request.filter;
+    let picked = filters::pick(kind);
+    let Picked::Is(f) = picked else {
+        return Planned::Refused(Refusal::RetiredFilter);
+    };
+    plan_with(f, request)
 }

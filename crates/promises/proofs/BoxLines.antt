@@ -10,8 +10,8 @@ use lib.Ieee.{Float, binary64, ofBits}
 use Rattle.floats.specs.Within.{Within, AtMost}
 use Rattle.floats.proofs.Within.{round-within}
 use Rattle.floats.proofs.Integers.{int, int-value, within-div-int, int-within}
-use Rattle.filters.specs.declared.FilterType.{FilterType}
-use Rattle.filters.specs.declared.FilterType.the-variants.{Box}
+use Rattle.filters.specs.declared.Filter.{Filter}
+use Rattle.filters.specs.declared.Filter.the-variants.{Box}
 use Rattle.floats.specs.Doubles.{zero64, half64, _over_}
 use Rattle.plans.specs.declared.Plan.{Plan}
 use Rattle.line_weights.specs.Weights.{weighs, weighsFrom, weightFrom, totalOf, sizeOf, upTo}
@@ -44,13 +44,13 @@ module _ (p : Plan) (i : ℕ) (box : p .filter ≡ Box) (ok : Sound p) (I : i < 
 
   size-of : size p i ≡ upTo (weighsFrom Box c (p .recip) (lead p i)) (held p i)
   unfolding size sizeOf
-  size-of = ap (λ (f : FilterType). upTo (weighsFrom f c (p .recip) (lead p i)) (held p i)) box
+  size-of = ap (λ (f : Filter). upTo (weighsFrom f c (p .recip) (lead p i)) (held p i)) box
 
   some : 0 < held p i
   some = let s = fit .some in let u = up-le (weighsFrom Box c (p .recip) (lead p i)) (held p i) in let e = size-of in omega arith
 
   starts : weighs Box c (p .recip) (lead p i) ≡ true
-  starts = subst (λ (f : FilterType). weighs f c (p .recip) (lead p i) ≡ true) box (lead-weighs p i some)
+  starts = subst (λ (f : Filter). weighs f c (p .recip) (lead p i) ≡ true) box (lead-weighs p i some)
 
   ends : lead p i + held p i ≤ 8192
   ends = let e = held-def p i in let s = stop-side p i in let h = some in let k = ok .within in omega arith
@@ -61,11 +61,11 @@ module _ (p : Plan) (i : ℕ) (box : p .filter ≡ Box) (ok : Sound p) (I : i < 
 
   total-of : total p i ≡ int (size p i)
   unfolding total
-  total-of = ap (λ (f : FilterType). totalOf f c (p .recip) (lead p i) (held p i)) box ∙ total-is c (p .recip) near R (lead p i) (held p i) ends some starts ∙ ap int (sym size-of)
+  total-of = ap (λ (f : Filter). totalOf f c (p .recip) (lead p i) (held p i)) box ∙ total-is c (p .recip) near R (lead p i) (held p i) ends some starts ∙ ap int (sym size-of)
 
   slot-of : (k : ℕ) (w : Float) → weightFrom Box c (p .recip) (lead p i) k ≡ w → k < held p i → slot p i k ≡ w over int (size p i)
   unfolding slot
-  slot-of k w e h = rw (lt-ltb k (held p i) h) (ap (λ (f : FilterType). weightFrom f c (p .recip) (lead p i) k over total p i) box ∙ ap (λ (v : Float). v over total p i) e ∙ ap (λ (t : Float). w over t) total-of)
+  slot-of k w e h = rw (lt-ltb k (held p i) h) (ap (λ (f : Filter). weightFrom f c (p .recip) (lead p i) k over total p i) box ∙ ap (λ (v : Float). v over total p i) e ∙ ap (λ (t : Float). w over t) total-of)
 
   -- each line has the share 1 / n
   pub share : (k : ℕ) → k < size p i → slot p i k ≡ weight (size p i)

@@ -1,4 +1,4 @@
--- What a plan keeps of its request besides being sound: the filter that was asked for, and one over the filter scale, which is at most 1. Cited by BoxSet. Assumes nothing.
+-- What a plan keeps of its request besides being sound: the filter that its name picks, and one over the filter scale, which is at most 1. Cited by BoxSet. Assumes nothing.
 use mathlib.Core.Path.{_≡_, refl, sym, _∙_, subst}
 use mathlib.Core.Bool.{Bool, true, false, cond}
 use Prim.Native.Nat.{ℕ, _*_, _<_}
@@ -14,6 +14,8 @@ use Rattle.floats.proofs.Within.{within-value, round-within}
 use Rattle.floats.proofs.Integers.{int-value}
 use Rattle.floats.proofs.Value.{lt-values, div-values}
 use Rattle.floats.specs.Doubles.{one64, _over_}
+use Rattle.filters.specs.declared.Picked.the-variants.{Is}
+use Rattle.filters.specs.Names.{pickedOf}
 use Rattle.plans.specs.declared.Request.{Request}
 use Rattle.plans.specs.declared.Planned.the-variants.{Ready}
 use Rattle.plans.specs.declared.Plan.{Plan}
@@ -51,11 +53,11 @@ recip-within true scale n w = go (lt one64 scale) refl
     go false e = one-over-one
 
 pub record Kept (q : Request) (p : Plan) : Type 0 where
-  pub filter-kept : p .filter ≡ q .filter
+  pub filter-kept : pickedOf (q .filter) ≡ Is (p .filter)
   pub output-kept : p .output ≡ q .output
   pub recip-small : Within (p .recip) 1
 
 pub plan-kept : (q : Request) (p : Plan) → planOf q ≡ Ready p → Kept q p
 plan-kept q p =
     plan-by q p (Kept q)
-    (λ b ok some few w. record { filter-kept = refl; output-kept = refl; recip-small = recip-within (q .adapts) (scaleOf (edgeOf (q .axis) (q .width) (q .height) b) (q .output)) 8192 w })
+    (λ f is b ok some few w. record { filter-kept = is; output-kept = refl; recip-small = recip-within (q .adapts) (scaleOf (edgeOf (q .axis) (q .width) (q .height) b) (q .output)) 8192 w })

@@ -15,7 +15,12 @@ use Rattle.lists.specs.Tab.{front, grid}
 use Rattle.lists.proofs.TabLaws.{front-below, length-front, grid-at}
 use Rattle.lists.proofs.BoolLaws.{or-left, or-right}
 use Rattle.floats.specs.Within.{Within}
+use Rattle.filters.specs.declared.FilterType.{FilterType}
 use Rattle.filters.specs.declared.FilterType.the-variants.{Box}
+use Rattle.filters.specs.declared.Filter.{Filter}
+use Rattle.filters.specs.declared.Filter.the-variants as filter
+use Rattle.filters.specs.declared.Picked.the-variants.{Is}
+use Rattle.filters.specs.Names.{pickedOf}
 use Rattle.plans.specs.declared.Request.{Request}
 use Rattle.plans.specs.declared.Plan.{Plan}
 use Rattle.coefficients.specs.declared.Built.the-variants.{Done}
@@ -30,6 +35,13 @@ use Rattle.vertical.proofs.Columns.{some-column}
 use Rattle.promises.proofs.Box.{weight}
 use Rattle.promises.proofs.BoxPlan.{Kept, plan-kept}
 use Rattle.promises.proofs.BoxLines.{lines, share, light}
+
+-- the name Box picks Box
+picked-box : (kind : FilterType) (f : Filter) → kind ≡ Box → pickedOf kind ≡ Is f → f ≡ filter.Box
+picked-box kind f e h = same f (rw e at h)
+  where
+    same : (f : Filter) → Is filter.Box ≡ Is f → f ≡ filter.Box
+    same f h = cc
 
 module _ (q : Request) (ws : List Float) (ss zs : List ℕ) (w : ℕ) (box : q .filter ≡ Box) (done : builtOf q (length ws) (length ss) (length zs) ≡ Done w) where
   pub set : DoneSet q (length ws) (length ss) (length zs) w
@@ -105,8 +117,8 @@ module _ (q : Request) (ws : List Float) (ss zs : List ℕ) (w : ℕ) (box : q .
       ∙ front-below (plan .output) (size plan) zs i 0 (lt-of-lt-of-le h (le-of-eq (sym (kept .output-kept))))
 
   module _ (i : ℕ) (h : i < q .output) where
-    filter-is : plan .filter ≡ Box
-    filter-is = kept .filter-kept ∙ box
+    filter-is : plan .filter ≡ filter.Box
+    filter-is = picked-box (q .filter) (plan .filter) box (kept .filter-kept)
 
     in-plan : i < plan .output
     in-plan = lt-of-lt-of-le h (le-of-eq (sym (kept .output-kept)))

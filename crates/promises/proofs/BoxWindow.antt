@@ -15,7 +15,7 @@ use Rattle.lists.specs.Tab.{turns}
 use Rattle.floats.specs.Within.{Within, AtMost}
 use Rattle.floats.proofs.Integers.{int, int-value, add-int}
 use Rattle.floats.proofs.Monotone.{mul-mono-right, int-sub-mono, round-mono-signed}
-use Rattle.filters.specs.declared.FilterType.the-variants.{Box}
+use Rattle.filters.specs.declared.Filter.the-variants.{Box}
 use Rattle.floats.specs.Doubles.{zero64, one64, _plus_}
 use Rattle.filters.specs.Filters.{valueOf, boxOf}
 use Rattle.line_weights.specs.Weights.{lineWeight, weighs, weighsFrom, weightFrom, addTo, totalOf, upTo}

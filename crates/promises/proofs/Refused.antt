@@ -1,4 +1,4 @@
--- The proof of `RefusedUnchanged`: each list at exit is chosen by the same tests as the answer, case by case. The builder's plan is refused with 1 to 6 only, so No. 8
+-- The proof of `RefusedUnchanged`: each list at exit is chosen by the same tests as the answer, case by case. The builder's plan is refused with 16 and 1 to 6 only, so No. 8
 -- is a blank line. Assumes nothing.
 use mathlib.Core.Path.{_≡_, refl}
 use mathlib.Core.Bool.{Bool, true, false, cond}
@@ -16,7 +16,10 @@ use Rattle.pixel_lists.specs.Lists.{badLists, numberOf as numberOfApplied}
 use Rattle.alpha.specs.Lists.{multipliedList, dividedList}
 use Rattle.pixel_lists.specs.declared.Applied.the-variants as applied
 use Rattle.alpha_u16.specs.Lists.{multipliedList as multipliedList16, dividedList as dividedList16}
-use Rattle.filters.specs.declared.FilterType.{FilterType}
+use Rattle.filters.specs.declared.Filter.{Filter}
+use Rattle.filters.specs.declared.Picked.{Picked}
+use Rattle.filters.specs.declared.Picked.the-variants.{Is, Retired}
+use Rattle.filters.specs.Names.{pickedOf}
 use Rattle.crop_box.specs.declared.Cropped.the-variants.{Inside, Refused as CropRefused}
 use Rattle.crop_box.specs.Crop.{notFinite, negativeExtent, startOutside, endOutside, cropOf}
 use Rattle.windows.specs.declared.Store.{Store}
@@ -30,7 +33,7 @@ use Rattle.plans.specs.declared.Planned.the-variants as planned
 use Rattle.coefficients.specs.declared.Built.the-variants as built
 use Rattle.coefficients.specs.Answer.{numberOf as numberOfBuilt}
 use Rattle.plan_windows.specs.Lines.{firstBlank, orZero, weightsIn, startsIn, sizesIn}
-use Rattle.plans.specs.Plan.{badOutput, noScale, edgeOf, planFor, scaled, afterCrop, planOf}
+use Rattle.plans.specs.Plan.{badOutput, noScale, edgeOf, planFor, scaled, afterCrop, planWith, planBy, planOf}
 use Rattle.coefficients.specs.Request.{tooFewSlots, judged, kept, built as builtBy}
 use Rattle.normalizer.specs.declared.Normalized.{Normalized}
 use Rattle.normalizer.specs.declared.Normalized.the-variants as normalized
@@ -49,6 +52,10 @@ use Rattle.repairs.proofs.Own.{unwritten}
 use Rattle.sheet.specs.declared.Sheet.the-variants as sheet
 use Rattle.sheet.specs.Answer.{noRoom, byCase, numberOf as numberOfSheet}
 use Rattle.sheet.specs.Text.{sheetText}
+use Rattle.vertical.specs.Frame.{badSize, badFrame}
+use Rattle.windows.specs.Store.{store32}
+use Rattle.story.specs.declared.Told.the-variants as told
+use Rattle.story.specs.Answer.{badPlace, byCase as storyByCase, textOf, numberOf as numberOfStory}
 use Rattle.promises.specs.RefusedUnchanged.{Not, Zeroed, RefusedUnchanged}
 
 -- ---- the builder: a plan is refused with a number other than 8
@@ -56,7 +63,7 @@ abbrev NotEight : Planned → Type 0
 NotEight (planned.Ready p) = Not 8 0
 NotEight (planned.Refused r) = Not 8 (numberOf r)
 
-scaled-not-8 : (f : FilterType) (adapts : Bool) (e : Edge) (output : ℕ) → NotEight (scaled f adapts e output)
+scaled-not-8 : (f : Filter) (adapts : Bool) (e : Edge) (output : ℕ) → NotEight (scaled f adapts e output)
 unfolding scaled
 scaled-not-8 f adapts e output = go (noScale e output)
   where
@@ -64,22 +71,30 @@ scaled-not-8 f adapts e output = go (noScale e output)
     go true = λ h. absurd (omega (arith, h))
     go false = λ h. absurd (omega (arith, h))
 
-crop-not-8 : (q : Request) (a b c d e : Bool) → NotEight (afterCrop q (cond a (CropRefused BadSide) (cond b (CropRefused NotFinite) (cond c (CropRefused NegativeExtent) (cond d (CropRefused StartOutside) (cond e (CropRefused EndOutside) (Inside (q .crop))))))))
+crop-not-8 : (f : Filter) (q : Request) (a b c d e : Bool) → NotEight (afterCrop f q (cond a (CropRefused BadSide) (cond b (CropRefused NotFinite) (cond c (CropRefused NegativeExtent) (cond d (CropRefused StartOutside) (cond e (CropRefused EndOutside) (Inside (q .crop))))))))
 unfolding afterCrop
-crop-not-8 q true b c d e = λ h. absurd (omega (arith, h))
-crop-not-8 q false true c d e = λ h. absurd (omega (arith, h))
-crop-not-8 q false false true d e = λ h. absurd (omega (arith, h))
-crop-not-8 q false false false true e = λ h. absurd (omega (arith, h))
-crop-not-8 q false false false false true = λ h. absurd (omega (arith, h))
-crop-not-8 q false false false false false = scaled-not-8 (q .filter) (q .adapts) (edgeOf (q .axis) (q .width) (q .height) (q .crop)) (q .output)
+crop-not-8 f q true b c d e = λ h. absurd (omega (arith, h))
+crop-not-8 f q false true c d e = λ h. absurd (omega (arith, h))
+crop-not-8 f q false false true d e = λ h. absurd (omega (arith, h))
+crop-not-8 f q false false false true e = λ h. absurd (omega (arith, h))
+crop-not-8 f q false false false false true = λ h. absurd (omega (arith, h))
+crop-not-8 f q false false false false false = scaled-not-8 f (q .adapts) (edgeOf (q .axis) (q .width) (q .height) (q .crop)) (q .output)
+
+with-not-8 : (f : Filter) (q : Request) → NotEight (planWith f q)
+unfolding planWith cropOf
+with-not-8 f q = go (badOutput (q .output))
+  where
+    go : (t : Bool) → NotEight (cond t (planned.Refused BadSide) (afterCrop f q (cropOf (q .width) (q .height) (q .crop))))
+    go true = λ h. absurd (omega (arith, h))
+    go false = crop-not-8 f q (badSides (q .width) (q .height)) (notFinite (q .crop)) (negativeExtent (q .crop)) (startOutside (q .width) (q .height) (q .crop)) (endOutside (q .width) (q .height) (q .crop))
 
 plan-not-8 : (q : Request) → NotEight (planOf q)
-unfolding planOf cropOf
-plan-not-8 q = go (badOutput (q .output))
+unfolding planOf
+plan-not-8 q = go (pickedOf (q .filter))
   where
-    go : (t : Bool) → NotEight (cond t (planned.Refused BadSide) (afterCrop q (cropOf (q .width) (q .height) (q .crop))))
-    go true = λ h. absurd (omega (arith, h))
-    go false = crop-not-8 q (badSides (q .width) (q .height)) (notFinite (q .crop)) (negativeExtent (q .crop)) (startOutside (q .width) (q .height) (q .crop)) (endOutside (q .width) (q .height) (q .crop))
+    go : (x : Picked) → NotEight (planBy q x)
+    go Retired = λ h. absurd (omega (arith, h))
+    go (Is f) = with-not-8 f q
 
 -- a list that the builder is lent, where the answer is neither 0 nor 8
 kept-as : {A : Type 0} (old : A) (f : Plan → A) (a b c : ℕ) (pl : Planned) → Not 0 (numberOfBuilt (judged pl a b c built.Refused builtBy)) → Not 8 (numberOfBuilt (judged pl a b c built.Refused builtBy)) → judged pl a b c (kept old) f ≡ old
@@ -138,8 +153,16 @@ sheet-kept false true c n written old n0 = refl
 sheet-kept false false true n written old n0 = refl
 sheet-kept false false false n written old n0 = absurd (n0 refl)
 
+story-kept : (a b c d e : Bool) (n : ℕ) (written old : List ℕ) → Not 0 (numberOfStory (cond a (told.Refused BadSide) (cond b (told.Refused DoesNotFit) (cond c (told.Refused DoesNotFit) (cond d (told.Refused DoesNotFit) (cond e (told.Refused NoRoom) (told.Written n))))))) → cond a old (cond b old (cond c old (cond d old (cond e old written)))) ≡ old
+story-kept true b c d e n written old n0 = refl
+story-kept false true c d e n written old n0 = refl
+story-kept false false true d e n written old n0 = refl
+story-kept false false false true e n written old n0 = refl
+story-kept false false false false true n written old n0 = refl
+story-kept false false false false false n written old n0 = absurd (n0 refl)
+
 pub refused-unchanged : RefusedUnchanged
-unfolding writtenOf excessesOf writtenU16 writtenU8 writtenF32 multipliedList dividedList multipliedList16 dividedList16 byCase
+unfolding writtenOf excessesOf writtenU16 writtenU8 writtenF32 multipliedList dividedList multipliedList16 dividedList16 byCase storyByCase
 refused-unchanged = record {
   build = λ q ws ss zs n0 n8. (
     kept-as ws (λ p. weightsIn p ws) (length ws) (length ss) (length zs) (planOf q) n0 n8,
@@ -158,4 +181,5 @@ refused-unchanged = record {
   sheet = λ kind store s out n0. sheet-kept (badSides (s .set .layout .lines) (windows (s .set .layout))) (badStored s store) (noRoom (length out) (length (sheetText kind store s))) (length (sheetText kind store s)) _ out n0;
   accept = untouched;
   offer = unwritten;
+  story = λ s src row i j out n0. story-kept (badSize (s .set .layout .lines) (windows (s .set .layout)) row) (badStored s store32) (badFrame (length src) (s .set .layout .lines) row) (badPlace (windows (s .set .layout)) row i j) (noRoom (length out) (length (textOf s src row i j))) (length (textOf s src row i j)) _ out n0;
 }

@@ -2,10 +2,7 @@
 // to its end (`judge`, with the scanners of `sheet_scan` and `excess_scan`) before anything is stored, so a refusal leaves the lent lists as they were; only then are its lines read into them.
 mod answer;
 mod judge;
-mod layout;
 mod read;
-mod slots16;
-mod slots32;
 
 pub use read::read_sheet;
 pub use read::read_sheet16;

@@ -21,25 +21,25 @@ fn wide16(s: u16) -> i64
 }
 
 // One weight times one sample, added; for a sum up to 2^62 in size.
-pub(crate) fn step(acc: i64, w: i32, s: u16) -> i64
+pub fn step(acc: i64, w: i32, s: u16) -> i64
     requires { ⌜ natAbs acc ≤ 2 ^ 62 ⌝ }
-    ensures { λ r. ⌜ r ≡ acc +ℤ w *ℤ pos s ⌝ }
+    ensures answer { λ r. ⌜ r ≡ acc +ℤ w *ℤ pos s ⌝ }
 {
     acc + wide32(w) * wide16(s)
 }
 
 // Half of 2^p, for p from 1 to 45. The sums start from it, so that the shift rounds to the nearest.
-pub(crate) fn half(p: u32) -> i64
+pub fn half(p: u32) -> i64
     requires { ⌜ (1 ≤ p) × (p ≤ 45) ⌝ }
-    ensures { λ r. ⌜ r ≡ pos (2 ^ (p - 1)) ⌝ }
+    ensures answer { λ r. ⌜ r ≡ pos (2 ^ (p - 1)) ⌝ }
 {
     1i64 << (p - 1)
 }
 
 // v divided by 2^p, rounding down: the shift copies the sign, so a negative sum does not round toward zero.
-fn shift(v: i64, p: u32) -> i64
+pub fn shift(v: i64, p: u32) -> i64
     requires { ⌜ p < 64 ⌝ }
-    ensures { λ r. ⌜ r ≡ shrZ v (2 ^ p) ⌝ }
+    ensures answer { λ r. ⌜ r ≡ shrZ v (2 ^ p) ⌝ }
 {
     v >> p
 }

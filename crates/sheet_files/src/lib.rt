@@ -1,4 +1,4 @@
-// `sheet_files`: a sheet's text in the file that a program's one argument names, for the programs that take such a file. `file` brings the bytes, `place` and
+// `sheet_files`: a sheet's text in the file that a program's one argument names, or the first of several, for the programs that take such a file. `file` brings the bytes, `place` and
 // `marked` say where a text that is no sheet stops being one, `unread` why no text was judged; `streams` are the answer and the reason for a person. No
 // contract says what is read or printed, since none could speak of the streams; every function is safe at every argument.
 mod file;
@@ -43,7 +43,14 @@ fn told(got: Input) -> Brought
     none()
 }
 
-// The file's bytes, in the beginning of the list.
+// The bytes of the file that the first argument names, whatever others there are, in the beginning of the list.
+pub fn first_text(buf: &mut [u8]) -> Brought
+    ensures { λ r. ⌜ r .n ≤ length (now (buf .entry)) ⌝ }
+{
+    told(file::read(buf))
+}
+
+// The same where that is the only argument.
 pub fn text(buf: &mut [u8]) -> Brought
     ensures { λ r. ⌜ r .n ≤ length (now (buf .entry)) ⌝ }
 {
@@ -55,5 +62,5 @@ pub fn text(buf: &mut [u8]) -> Brought
         unread::too_many();
         return none();
     }
-    told(file::read(buf))
+    first_text(buf)
 }

@@ -92,6 +92,18 @@ fn no_scale() {
     value(4, b"extent", b"0", rule);
 }
 
+// No. 16: a filter whose sheets are still read.
+fn retired_filter() {
+    number(Refusal::RetiredFilter, b"RetiredFilter");
+    out(b" value=");
+    out_argument(1);
+    out(b" allowed=box,bilinear,catmullrom\n");
+    err(b"filter ");
+    err_argument(1);
+    err(b": it is retired; its sheets are read and run as before, but no new one is made. ");
+    err(b"Pick box, bilinear or catmullrom, which reaches as far\n");
+}
+
 fn weight_outside(narrow: bool) {
     number(Refusal::WeightOutside, b"WeightOutside");
     if narrow {
@@ -120,6 +132,7 @@ pub(crate) fn refused(refusal: Refusal, asked: Asked) {
     let n = os::arg(2, &mut text);
     let side = &text[..n];
     match refusal {
+        Refusal::RetiredFilter => retired_filter(),
         Refusal::BadSide => bad_side(asked.side, asked.output),
         Refusal::NotFinite => not_finite(asked.near),
         Refusal::NegativeExtent => negative_extent(),

@@ -10,7 +10,8 @@ use Rattle.integers.specs.Sums.{sum, shifted, clipped}
 use Rattle.vertical.specs.Frame.{frame}
 use Rattle.vertical.specs.Example.{set4, sharp}
 use Rattle.vertical.specs.U16.{valueAt}
-use Rattle.vertical_u8.specs.U8.{sizesTotal, heavy}
+use Rattle.row_u8.specs.Sizes.{sizesTotal}
+use Rattle.vertical_u8.specs.U8.{heavy}
 
 abbrev pass4 : List ℤ → List ℕ → ℕ
 pass4 weights samples = valueAt 255 (set4 weights (length samples)) (frame 0 samples 1) 0 0

@@ -1,4 +1,3 @@
-pub mod Sizes
 pub mod Slices
 pub mod Judged
 pub mod Exactly

@@ -12,9 +12,10 @@ use borrow.Author.Tests.{ltb-false}
 use Rattle.lists.specs.Tab.{any}
 use Rattle.lists.proofs.AnyLaws.{any-none}
 use Rattle.vertical.specs.Column.{weightAt}
-use Rattle.vertical_u8.specs.U8.{sizesTotal, heavy}
+use Rattle.row_u8.specs.Sizes.{sizesTotal}
+use Rattle.vertical_u8.specs.U8.{heavy}
 use Rattle.vertical_u8.specs.Inner.{slotHeavy}
-use Rattle.vertical_u8.proofs.Sizes.{total-ext}
+use Rattle.row_u8.proofs.Sizes.{total-ext}
 
 -- d and m are what the code has for the size n
 slice-total : (weights : List ℤ) (a n : ℕ) {d m : ℕ} → d ≡ n → m ≡ n → sizesTotal (weightAt (take d (drop a weights))) m ≡ sizesTotal (λ k. getD weights (a + k) (pos 0)) n

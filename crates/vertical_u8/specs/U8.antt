@@ -4,9 +4,9 @@ use mathlib.Core.Bool.{Bool, cond}
 use mathlib.Core.List.{List}
 use Prim.Native.Nat.{ℕ, _+_, _-_, _*_, _^_}
 use lib.Dec.{ltb}
-use lib.IntN.{ℤ, pos, natAbs}
+use lib.IntN.{ℤ, pos}
 use lib.ListN.{length}
-use Rattle.lists.specs.Tab.{any, turns}
+use Rattle.lists.specs.Tab.{any}
 use Rattle.refusal.specs.declared.Refusal.the-variants.{BadSide, DoesNotFit, WeightOutside}
 use Rattle.windows.specs.Set.{Stored, windows, size, weight}
 use Rattle.windows.specs.Store.{store16}
@@ -16,10 +16,7 @@ use Rattle.vertical.specs.declared.Passed.the-variants.{Done, Refused}
 use Rattle.vertical.specs.Passed.{after}
 use Rattle.vertical.specs.Frame.{frame, output, badSize, badArea}
 use Rattle.vertical.specs.U16.{valueAt}
-
--- the sizes of n weights, added up
-unfoldable pub sizesTotal : (ℕ → ℤ) → ℕ → ℕ
-sizesTotal w n = turns (λ t k. t + natAbs (w k)) 0 n
+use Rattle.row_u8.specs.Sizes.{sizesTotal}
 
 -- No. 9: n weights times the largest sample, each in its size, with half of 2^p pass 2^31 - 1
 abbrev pub heavy : ℕ → (ℕ → ℤ) → ℕ → Bool

@@ -1,5 +1,5 @@
 // No. 9: whether some window's weights could make a sum pass 2^31 - 1. It is judged by the sizes of the weights in use and the largest sample, so that no frame matters.
-use super::arithmetic::index;
+use super::index::index;
 ghost use mathlib.Core.Path.{_≡_};
 ghost use Prim.Native.Nat.{_-_, _^_, _≤_};
 ghost use lib.IntN.{natAbs};
@@ -7,7 +7,8 @@ ghost use lib.ListN.{length};
 ghost use Rattle.lists.specs.Tab.{any};
 ghost use Rattle.windows.specs.Fit.{InSlots};
 ghost use Rattle.vertical.specs.Column.{weightAt};
-ghost use Rattle.vertical_u8.specs.U8.{sizesTotal, heavy};
+ghost use Rattle.row_u8.specs.Sizes.{sizesTotal};
+ghost use Rattle.vertical_u8.specs.U8.{heavy};
 ghost use Rattle.vertical_u8.specs.Inner.{slotHeavy};
 
 // The size of a weight. -1 - w fits for every w below 0, where -w would not.

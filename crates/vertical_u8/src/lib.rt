@@ -1,11 +1,9 @@
 // `vertical_u8`: the vertical pass over u8 samples with i16 weights, as `passedU8` and `writtenU8` say: the u16 pass's formula with 255 for the largest sample. Ours;
 // the given Rust has none. `judge` looks at every window's weights before anything is written, so that no sum of i32 can wrap; `rows` then fills the
-// output window by window, `columns` thirty-two columns at a time, and the columns left over one by one.
-mod arithmetic;
-mod columns;
+// output window by window, each row by the worker `row_u8` lends.
+mod index;
 mod judge;
 mod rows;
-mod sums;
 
 use excesses::stored_fits16;
 use judge::some_heavy;

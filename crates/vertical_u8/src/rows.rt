@@ -1,6 +1,6 @@
 // Every window's row, each in its place of the output.
-use super::arithmetic::index;
-use super::columns::fill;
+use super::index::index;
+use row_u8::fill;
 ghost use mathlib.Core.Path.{_≡_};
 ghost use mathlib.Core.Bool.{false};
 ghost use Prim.Native.Nat.{_*_, _≤_};

@@ -75,6 +75,9 @@ fn clip8(word: &str, bare: bool) -> Option<String> {
 }
 
 fn filter(fields: &[&str]) -> Option<String> {
+    if judge::retired(fields[0]) {
+        return None;
+    }
     let (func, _) = theirs::filter(theirs::kind(fields[0])?);
     Some(hex64(&plain(func(f64_of(fields[1])?), false)))
 }
@@ -142,6 +145,9 @@ fn build(fields: &[&str], bare: bool) -> Option<String> {
     };
     let refused = |no| shown(no, 0, 0, &slots, &starts, &sizes);
 
+    if !bare && judge::retired(fields[0]) {
+        return refused(16);
+    }
     if !bare && !judge::side_fits(out as u64) {
         return refused(1);
     }

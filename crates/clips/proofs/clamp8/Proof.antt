@@ -8,9 +8,6 @@ use Rattle.clips.proofs.Laws.{natural-same, clipped-same}
 use Rattle.clips.proofs.clamp8.Statement.{statement}
 use Rattle.clips.proofs.clamp8.Tie as tie
 
-at-least8-requires : tie.Need-at-least8-requires
-at-least8-requires c κs = search needs
-
 at-most8-requires : tie.Need-at-most8-requires
 at-most8-requires c κs = natural-same (toZ-ofZ (record { sfits = c .at-least8 .ok }) ∙ c .at-least8 .ensures)
 
@@ -20,4 +17,4 @@ returns c =
     c .at-most8 .ensures ∙ clipped-same 255 (c .before .before .args .v) back
 
 pub clamp8-spec : {M : Type 1} → statement M
-clamp8-spec = tie.close (tie.spec at-least8-requires at-most8-requires returns)
+clamp8-spec = tie.close (tie.spec (λ c κs. search needs) at-most8-requires returns)

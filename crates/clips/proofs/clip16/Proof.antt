@@ -8,9 +8,6 @@ use Rattle.clips.proofs.Laws.{natural-same, clipped-same}
 use Rattle.clips.proofs.clip16.Statement.{statement}
 use Rattle.clips.proofs.clip16.Tie as tie
 
-at-least-requires : tie.Need-at-least-requires
-at-least-requires c κs = search needs
-
 at-most-requires : tie.Need-at-most-requires
 at-most-requires c κs = natural-same (toZ-ofZ (record { sfits = c .at-least .ok }) ∙ c .at-least .ensures)
 
@@ -20,4 +17,4 @@ returns c =
     c .at-most .ensures ∙ clipped-same 65535 (c .before .before .args .v) back
 
 pub clip16-spec : {M : Type 1} → statement M
-clip16-spec = tie.close (tie.spec at-least-requires at-most-requires returns)
+clip16-spec = tie.close (tie.spec (λ c κs. search needs) at-most-requires returns)

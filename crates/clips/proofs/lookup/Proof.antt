@@ -5,15 +5,9 @@ use Rattle.integers.specs.Sums.{clipped}
 use Rattle.clips.proofs.lookup.Statement.{statement}
 use Rattle.clips.proofs.lookup.Tie as tie
 
-slice-aggregate-entry : tie.Need-slice-aggregate-entry
-slice-aggregate-entry c = search needs
-
 entry-requires : tie.Need-entry-requires
 unfolding clipped
 entry-requires c κs = (refl, c .before .pre)
 
-returns : tie.Need-returns
-returns c = search needs
-
 pub lookup-spec : {M : Type 1} → statement M
-lookup-spec = tie.close (tie.spec slice-aggregate-entry entry-requires returns)
+lookup-spec = tie.close (tie.spec (λ c. search needs) entry-requires (λ c. search needs))

@@ -6,18 +6,12 @@ use borrow.Author.Needs.{needs}
 use Rattle.crop_edges.proofs.read_edge.Statement.{statement}
 use Rattle.crop_edges.proofs.read_edge.Tie as tie
 
-is-pattern-requires : tie.Need-is-pattern-requires
-is-pattern-requires c κs = search needs
-
 of-pattern-requires : tie.Need-of-pattern-requires
 of-pattern-requires c κs = sym (c .before .is-pattern .ensures) ∙ c .if1 .taken
 
 returns : tie.Need-returns
 unfolding edgeOf
 returns c = rw (sym (c .before .before .is-pattern .ensures) ∙ c .before .if1 .taken) (ap At (c .of-pattern .ensures))
-
-is-decimal-requires : tie.Need-is-decimal-requires
-is-decimal-requires c κs = search needs
 
 of-decimal-requires : tie.Need-of-decimal-requires
 of-decimal-requires c κs = sym (c .before .is-decimal .ensures) ∙ c .if2 .taken
@@ -33,11 +27,4 @@ returns-3 c = rw (sym (c .before .before .before .is-pattern .ensures) ∙ c .be
 pub read-edge-spec : {M : Type 1} → statement M
 read-edge-spec =
     tie.close
-    (tie.spec
-    is-pattern-requires
-    of-pattern-requires
-    returns
-    is-decimal-requires
-    of-decimal-requires
-    returns-2
-    returns-3)
+    (tie.spec (λ c κs. search needs) of-pattern-requires returns (λ c κs. search needs) of-decimal-requires returns-2 returns-3)

@@ -1,4 +1,4 @@
--- `support` meets its contract: each arm of the match is the line of `supportOf` for that kind. Assumes nothing.
+-- `support` meets its contract: each arm of the match is the line of `supportOf` for that filter. Assumes nothing.
 use borrow.Author.Needs.{needs}
 use Rattle.filters.proofs.support.Statement.{statement}
 use Rattle.filters.proofs.support.Tie as tie
@@ -14,9 +14,6 @@ enum-told-2 c = search needs
 enum-told-3 : tie.Need-enum-told-3
 enum-told-3 c = search needs
 
-enum-told-4 : tie.Need-enum-told-4
-enum-told-4 c = search needs
-
 returns : tie.Need-returns
 unfolding supportOf
 returns c = sym (ap supportOf (c .enum-told .given .1))
@@ -29,11 +26,6 @@ returns-3 : tie.Need-returns-3
 unfolding supportOf
 returns-3 c = sym (ap supportOf (c .enum-told3 .given .1))
 
-returns-4 : tie.Need-returns-4
-unfolding supportOf
-returns-4 c = sym (ap supportOf (c .enum-told4 .given .1))
-
 pub support-spec : {M : Type 1} → statement M
 support-spec =
-    tie.close
-    (tie.spec enum-told enum-told-2 enum-told-3 enum-told-4 returns returns-2 returns-3 returns-4)
+    tie.close (tie.spec enum-told enum-told-2 enum-told-3 returns returns-2 returns-3)

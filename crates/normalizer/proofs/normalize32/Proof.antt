@@ -15,12 +15,6 @@ use Rattle.normalizer.proofs.Judged.{precision-small, ready, refused-wr
 judge-requires : tie.Need-judge-requires
 judge-requires c κs = (omega arith, (omega arith, omega arith))
 
-enum-known-answer : tie.Need-enum-known-answer
-enum-known-answer c = search needs
-
-enum-told : tie.Need-enum-told
-enum-told c = search needs
-
 returns : tie.Need-returns
 returns c =
     let judged = c .before .before .judge .ensures in
@@ -36,9 +30,6 @@ write32-requires c κs =
       (fits .some-slot, (fits .full ∙ ap (λ (n : ℕ). n * start .args .window-size) (fits .pairs), (le-trans (le-of-eq (fits .full)) (set .enough), set .inside))),
     )
 
-slice-aggregate-write-excesses : tie.Need-slice-aggregate-write-excesses
-slice-aggregate-write-excesses c = search needs
-
 write-excesses-requires : tie.Need-write-excesses-requires
 write-excesses-requires c κs =
     let written = c .before .before .before .before in
@@ -46,12 +37,6 @@ write-excesses-requires c κs =
     let start = at .before .before .before .before .before .before in
     excesses-asked store32 (setOf (layoutOf (start .args .lines) (start .args .window-size) (start .args .starts .now) (start .args .sizes .now)) (start .args .weights .now)) (at .answer .given .0 .0) (start .args .out .now) (start .args .excesses .now)
     (sym (at .before .before .judge .ensures) ∙ at .answer .given .1) _ (written .write32 .ensures) (omega arith) (omega arith)
-
-same-length : tie.Need-same-length
-same-length c = search needs
-
-same-length-2 : tie.Need-same-length-2
-same-length-2 c = search needs
 
 returns-2 : tie.Need-returns-2
 returns-2 c =
@@ -68,14 +53,5 @@ returns-2 c =
 pub normalize32-spec : {M : Type 1} → statement M
 normalize32-spec =
     tie.close
-    (tie.spec
-    judge-requires
-    enum-known-answer
-    enum-told
-    returns
-    write32-requires
-    slice-aggregate-write-excesses
-    write-excesses-requires
-    same-length
-    same-length-2
-    returns-2)
+    (tie.spec judge-requires (λ c. search needs) (λ c. search needs) returns write32-requires (λ c. search needs) write-excesses-requires (λ c. search needs)
+    (λ c. search needs) returns-2)

@@ -45,9 +45,6 @@ returns c = nan-narrow (c .before .args .x) (differs-from-itself (c .before .arg
 float-to-bits-narrow-bits : tie.Need-float-to-bits-narrow-bits
 float-to-bits-narrow-bits c = equal-number (c .before .args .x) (c .if1 .left)
 
-narrow-bits-requires : tie.Need-narrow-bits-requires
-narrow-bits-requires c κs = search needs
-
 float-from-bits-t6 : tie.Need-float-from-bits-t6
 float-from-bits-t6 c =
     let b = c .before .before in
@@ -59,4 +56,4 @@ returns-2 : tie.Need-returns-2
 returns-2 c = let n = c .before .narrow-bits in both (c .before .before .before .args .x) (n .result) (held (c .before .before .before)) (n .ensures)
 
 pub narrow-spec : {M : Type 1} → statement M
-narrow-spec = tie.close (tie.spec returns float-to-bits-narrow-bits narrow-bits-requires float-from-bits-t6 returns-2)
+narrow-spec = tie.close (tie.spec returns float-to-bits-narrow-bits (λ c κs. search needs) float-from-bits-t6 returns-2)

@@ -6,16 +6,10 @@ use Rattle.windows.specs.Fit.{badSet}
 use Rattle.vertical.proofs.shape_fits.Statement.{statement}
 use Rattle.vertical.proofs.shape_fits.Tie as tie
 
-set-fits-requires : tie.Need-set-fits-requires
-set-fits-requires c κs = search needs
-
 returns : tie.Need-returns
 returns c =
     let a = c .before .before .before .before .args in
     rw (asked-bad (badSet (layoutOf (a .frame .lines) (a .window-size) (a .starts .now) (a .sizes .now)) (a .slots)) (c .before .set-fits .ensures) (c .if1 .taken))
-
-frame-fits-requires : tie.Need-frame-fits-requires
-frame-fits-requires c κs = search needs
 
 returns-2 : tie.Need-returns-2
 returns-2 c =
@@ -24,4 +18,4 @@ returns-2 c =
     (c .frame-fits .ensures)
 
 pub shape-fits-spec : {M : Type 1} → statement M
-shape-fits-spec = tie.close (tie.spec set-fits-requires returns frame-fits-requires returns-2)
+shape-fits-spec = tie.close (tie.spec (λ c κs. search needs) returns (λ c κs. search needs) returns-2)

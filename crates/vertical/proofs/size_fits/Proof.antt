@@ -5,9 +5,6 @@ use Rattle.lists.specs.Ranges.{badSides}
 use Rattle.vertical.proofs.size_fits.Statement.{statement}
 use Rattle.vertical.proofs.size_fits.Tie as tie
 
-sides-fit-requires : tie.Need-sides-fit-requires
-sides-fit-requires c κs = search needs
-
 returns : tie.Need-returns
 returns c =
     let a = c .before .before .args in
@@ -19,4 +16,4 @@ returns-2 c =
     rw (asked-good (badSides (e .before .before .args .frame .lines) (e .before .before .args .windows)) (e .before .sides-fit .ensures) (e .if1 .left))
 
 pub size-fits-spec : {M : Type 1} → statement M
-size-fits-spec = tie.close (tie.spec sides-fit-requires returns returns-2)
+size-fits-spec = tie.close (tie.spec (λ c κs. search needs) returns returns-2)

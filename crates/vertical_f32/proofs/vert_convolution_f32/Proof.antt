@@ -20,17 +20,11 @@ use Rattle.vertical_f32.proofs.Judged.{bad-size, bad-shape, bad-weights
 use Rattle.vertical_f32.proofs.vert_convolution_f32.Statement.{statement}
 use Rattle.vertical_f32.proofs.vert_convolution_f32.Tie as tie
 
-size-fits-requires : tie.Need-size-fits-requires
-size-fits-requires c κs = search needs
-
 returns : tie.Need-returns
 returns c =
     let a = c .before .before .before .before .before .before .before .args in
     let s : Set Float = setOf (layoutOf (a .frame .lines) (a .window-size) (a .starts .now) (a .sizes .now)) (a .weights .now) in
     bad-size s (a .src .now) (a .frame .row) (a .frame .first) (a .frame .count) (a .out .now) (asked-bad (badSize (s .layout .lines) (windows (s .layout)) (a .frame .row)) (c .before .size-fits .ensures) (c .if1 .taken))
-
-shape-fits-requires : tie.Need-shape-fits-requires
-shape-fits-requires c κs = search needs
 
 returns-2 : tie.Need-returns-2
 returns-2 c =
@@ -59,15 +53,6 @@ returns-3 c =
     (asked-good (badShape (s .layout) (length (s .weights)) (length (a .src .now)) (a .frame .row) (a .frame .first) (a .frame .count) (length (a .out .now))) (c .before .before .before .shape-fits .ensures) (c .before .before .if2 .left))
     (asked-bad (badWeights s) (weights-said s (c .before .weights-fit .result) (c .before .weights-fit .ensures .0) (c .before .weights-fit .ensures .1)) (c .if3 .taken))
 
-cast-samples-fit : tie.Need-cast-samples-fit
-cast-samples-fit c = search needs
-
-cast-samples-fit-2 : tie.Need-cast-samples-fit-2
-cast-samples-fit-2 c = search needs
-
-cast-samples-fit-3 : tie.Need-cast-samples-fit-3
-cast-samples-fit-3 c = search needs
-
 samples-fit-requires : tie.Need-samples-fit-requires
 samples-fit-requires c κs =
     let a = c .before .before .before .before .before .before .before .before .before .before .before .before .before .before .args in
@@ -87,15 +72,6 @@ returns-4 c =
     (asked-good (badShape (s .layout) (length (s .weights)) (length (a .src .now)) (a .frame .row) (a .frame .first) (a .frame .count) (length (a .out .now))) (c .before .before .before .before .before .before .before .before .shape-fits .ensures) (c .before .before .before .before .before .before .before .if2 .left))
     (asked-good (badWeights s) (weights-said s (c .before .before .before .before .before .before .weights-fit .result) (c .before .before .before .before .before .before .weights-fit .ensures .0) (c .before .before .before .before .before .before .weights-fit .ensures .1)) (c .before .before .before .before .before .if3 .left))
     (asked-bad (badSamples s (a .src .now) (a .frame .row) (a .frame .first) (a .frame .count)) (samples-said s (a .src .now) (a .frame .row) (a .frame .first) (a .frame .count) (c .before .samples-fit .result) (c .before .samples-fit .ensures .0) (c .before .samples-fit .ensures .1)) (c .if4 .taken))
-
-cast-rows : tie.Need-cast-rows
-cast-rows c = search needs
-
-cast-rows-2 : tie.Need-cast-rows-2
-cast-rows-2 c = search needs
-
-cast-rows-3 : tie.Need-cast-rows-3
-cast-rows-3 c = search needs
 
 rows-requires : tie.Need-rows-requires
 rows-requires c κs =
@@ -126,9 +102,6 @@ counted-requires c κs =
           (r .last .1 .1 .1 .1 .1 .1 .1 .1 .0) (r .kept .1 .1 .1 .1 .1 .1 .1 .1 .0 ∙ q .rooms) (r .ensures .0) (r .ensures .1 e)),
     )
 
-same-length : tie.Need-same-length
-same-length c = search needs
-
 returns-5 : tie.Need-returns-5
 returns-5 c =
     let a = c .before .before .before .before .before .before .before .before .before .before .before .before .before .before .before .before .before .before .before .before .before .before .before .before .before .args in
@@ -148,22 +121,6 @@ returns-5 c =
 pub vert-convolution-f32-spec : {M : Type 1} → statement M
 vert-convolution-f32-spec =
     tie.close
-    (tie.spec
-    size-fits-requires
-    returns
-    shape-fits-requires
-    returns-2
-    weights-fit-requires
-    returns-3
-    cast-samples-fit
-    cast-samples-fit-2
-    cast-samples-fit-3
-    samples-fit-requires
-    returns-4
-    cast-rows
-    cast-rows-2
-    cast-rows-3
-    rows-requires
-    counted-requires
-    same-length
-    returns-5)
+    (tie.spec (λ c κs. search needs) returns (λ c κs. search needs) returns-2 weights-fit-requires returns-3 (λ c. search needs) (λ c. search needs)
+    (λ c. search needs) samples-fit-requires returns-4 (λ c. search needs) (λ c. search needs) (λ c. search needs) rows-requires counted-requires
+    (λ c. search needs) returns-5)

@@ -14,17 +14,11 @@ use Rattle.vertical_u16.proofs.Judged.{bad-size, bad-stored, bad-area, 
 use Rattle.vertical_u16.proofs.vert_convolution_u16.Statement.{statement}
 use Rattle.vertical_u16.proofs.vert_convolution_u16.Tie as tie
 
-size-fits-requires : tie.Need-size-fits-requires
-size-fits-requires c κs = search needs
-
 returns : tie.Need-returns
 returns c =
     let a = c .before .before .before .before .before .before .args in
     let s : Stored = storedOf (setOf (layoutOf (a .frame .lines) (a .window-size) (a .starts .now) (a .sizes .now)) (a .weights .now)) (a .precision) (a .excesses .now) in
     bad-size s (a .src .now) (a .frame .row) (a .frame .first) (a .frame .count) (a .out .now) (asked-bad (badSize (s .set .layout .lines) (windows (s .set .layout)) (a .frame .row)) (c .before .size-fits .ensures) (c .if1 .taken))
-
-stored-fits32-requires : tie.Need-stored-fits32-requires
-stored-fits32-requires c κs = search needs
 
 returns-2 : tie.Need-returns-2
 returns-2 c =
@@ -32,9 +26,6 @@ returns-2 c =
     let s : Stored = storedOf (setOf (layoutOf (a .frame .lines) (a .window-size) (a .starts .now) (a .sizes .now)) (a .weights .now)) (a .precision) (a .excesses .now) in
     let size = asked-good (badSize (s .set .layout .lines) (windows (s .set .layout)) (a .frame .row)) (c .before .before .before .size-fits .ensures) (c .before .before .if1 .left) in
     bad-stored s (a .src .now) (a .frame .row) (a .frame .first) (a .frame .count) (a .out .now) size (stored-bad store32 s (a .frame .row) size (c .before .stored-fits32 .ensures) (c .if2 .taken))
-
-frame-fits-requires : tie.Need-frame-fits-requires
-frame-fits-requires c κs = search needs
 
 returns-3 : tie.Need-returns-3
 returns-3 c =
@@ -44,15 +35,6 @@ returns-3 c =
     bad-area s (a .src .now) (a .frame .row) (a .frame .first) (a .frame .count) (a .out .now) size (stored-good store32 s (a .frame .row) size (c .before .before .before .stored-fits32 .ensures) (c .before .before .if2 .left))
     (asked-bad (badArea (s .set .layout .lines) (windows (s .set .layout)) (length (a .src .now)) (a .frame .row) (a .frame .first) (a .frame .count) (length (a .out .now))) (c .before .frame-fits .ensures) (c .if3 .taken))
 
-cast-rows : tie.Need-cast-rows
-cast-rows c = search needs
-
-cast-rows-2 : tie.Need-cast-rows-2
-cast-rows-2 c = search needs
-
-cast-rows-3 : tie.Need-cast-rows-3
-cast-rows-3 c = search needs
-
 rows-requires : tie.Need-rows-requires
 rows-requires c κs =
     let i = c .before .before .before .before in
@@ -61,9 +43,6 @@ rows-requires c κs =
     let t = tests store32 s (a .frame .row) (length (a .src .now)) (a .frame .first) (a .frame .count) (length (a .out .now)) (i .before .before .before .before .before .size-fits .ensures) (i .before .before .before .before .if1 .left) (i .before .before .before .stored-fits32 .ensures) (i .before .before .if2 .left) (i .before .frame-fits .ensures) (i .if3 .left) in
     let p = stored-precise s store32 (t .stored) in
     ((omega (arith, p), p .most), ready (s .set) (length (a .src .now)) (a .frame .row) (a .frame .first) (a .frame .count) (length (a .out .now)) (tests-shaped store32 s (length (a .src .now)) (a .frame .row) (a .frame .first) (a .frame .count) (length (a .out .now)) t))
-
-same-length : tie.Need-same-length
-same-length c = search needs
 
 returns-4 : tie.Need-returns-4
 returns-4 c =
@@ -77,16 +56,5 @@ returns-4 c =
 pub vert-convolution-u16-spec : {M : Type 1} → statement M
 vert-convolution-u16-spec =
     tie.close
-    (tie.spec
-    size-fits-requires
-    returns
-    stored-fits32-requires
-    returns-2
-    frame-fits-requires
-    returns-3
-    cast-rows
-    cast-rows-2
-    cast-rows-3
-    rows-requires
-    same-length
-    returns-4)
+    (tie.spec (λ c κs. search needs) returns (λ c κs. search needs) returns-2 (λ c κs. search needs) returns-3 (λ c. search needs) (λ c. search needs)
+    (λ c. search needs) rows-requires (λ c. search needs) returns-4)

@@ -21,17 +21,11 @@ use Rattle.vertical_u8.proofs.Judged.{bad-size, bad-stored, bad-area, t
 use Rattle.vertical_u8.proofs.vert_convolution_u8.Statement.{statement}
 use Rattle.vertical_u8.proofs.vert_convolution_u8.Tie as tie
 
-size-fits-requires : tie.Need-size-fits-requires
-size-fits-requires c κs = search needs
-
 returns : tie.Need-returns
 returns c =
     let a = c .before .before .before .before .before .before .args in
     let s : Stored = storedOf (setOf (layoutOf (a .frame .lines) (a .window-size) (a .starts .now) (a .sizes .now)) (a .weights .now)) (a .precision) (a .excesses .now) in
     bad-size s (a .src .now) (a .frame .row) (a .frame .first) (a .frame .count) (a .out .now) (asked-bad (badSize (s .set .layout .lines) (windows (s .set .layout)) (a .frame .row)) (c .before .size-fits .ensures) (c .if1 .taken))
-
-stored-fits16-requires : tie.Need-stored-fits16-requires
-stored-fits16-requires c κs = search needs
 
 returns-2 : tie.Need-returns-2
 returns-2 c =
@@ -39,9 +33,6 @@ returns-2 c =
     let s : Stored = storedOf (setOf (layoutOf (a .frame .lines) (a .window-size) (a .starts .now) (a .sizes .now)) (a .weights .now)) (a .precision) (a .excesses .now) in
     let size = asked-good (badSize (s .set .layout .lines) (windows (s .set .layout)) (a .frame .row)) (c .before .before .before .size-fits .ensures) (c .before .before .if1 .left) in
     bad-stored s (a .src .now) (a .frame .row) (a .frame .first) (a .frame .count) (a .out .now) size (stored-bad store16 s (a .frame .row) size (c .before .stored-fits16 .ensures) (c .if2 .taken))
-
-frame-fits-requires : tie.Need-frame-fits-requires
-frame-fits-requires c κs = search needs
 
 returns-3 : tie.Need-returns-3
 returns-3 c =
@@ -74,15 +65,6 @@ returns-4 c =
     let f = tests-shaped store16 s (length (a .src .now)) (a .frame .row) (a .frame .first) (a .frame .count) (length (a .out .now)) t in
     too-heavy s (a .src .now) (a .frame .row) (a .frame .first) (a .frame .count) (a .out .now) t (same-count (slotHeavy (a .window-size) (a .weights .now) (a .sizes .now) (a .precision)) (f .set .pairs) (c .before .some-heavy .ensures) (c .if4 .taken))
 
-cast-rows : tie.Need-cast-rows
-cast-rows c = search needs
-
-cast-rows-2 : tie.Need-cast-rows-2
-cast-rows-2 c = search needs
-
-cast-rows-3 : tie.Need-cast-rows-3
-cast-rows-3 c = search needs
-
 rows-requires : tie.Need-rows-requires
 rows-requires c κs =
     let i = c .before .before .before .before .before .before in
@@ -92,9 +74,6 @@ rows-requires c κs =
     let f = tests-shaped store16 s (length (a .src .now)) (a .frame .row) (a .frame .first) (a .frame .count) (length (a .out .now)) t in
     let p = stored-precise s store16 (t .stored) in
     ((omega (arith, p), p .most), (ready (s .set) (length (a .src .now)) (a .frame .row) (a .frame .first) (a .frame .count) (length (a .out .now)) f, sym (c .before .before .before .before .before .some-heavy .ensures) ∙ c .before .before .before .before .if4 .left))
-
-same-length : tie.Need-same-length
-same-length c = search needs
 
 returns-5 : tie.Need-returns-5
 returns-5 c =
@@ -109,18 +88,5 @@ returns-5 c =
 pub vert-convolution-u8-spec : {M : Type 1} → statement M
 vert-convolution-u8-spec =
     tie.close
-    (tie.spec
-    size-fits-requires
-    returns
-    stored-fits16-requires
-    returns-2
-    frame-fits-requires
-    returns-3
-    some-heavy-requires
-    returns-4
-    cast-rows
-    cast-rows-2
-    cast-rows-3
-    rows-requires
-    same-length
-    returns-5)
+    (tie.spec (λ c κs. search needs) returns (λ c κs. search needs) returns-2 (λ c κs. search needs) returns-3 some-heavy-requires returns-4
+    (λ c. search needs) (λ c. search needs) (λ c. search needs) rows-requires (λ c. search needs) returns-5)

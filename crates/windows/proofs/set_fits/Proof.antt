@@ -8,9 +8,6 @@ use Rattle.windows.proofs.set_fits.Statement.{statement}
 use Rattle.windows.proofs.set_fits.Tie as tie
 
 -- src/lib.rt:32:8
-counts-misfit-requires : tie.Need-counts-misfit-requires
-counts-misfit-requires c κs = search needs
-
 -- src/lib.rt:33:9
 returns : tie.Need-returns
 returns c = rw (sym (c .before .counts-misfit .ensures) ∙ c .if1 .taken)
@@ -26,4 +23,4 @@ returns-2 : tie.Need-returns-2
 returns-2 c = rw (sym (c .before .before .counts-misfit .ensures) ∙ c .before .if1 .left) (ap not (c .some-misfits .ensures))
 
 pub set-fits-spec : {M : Type 1} → statement M
-set-fits-spec = tie.close (tie.spec counts-misfit-requires returns some-misfits-requires returns-2)
+set-fits-spec = tie.close (tie.spec (λ c κs. search needs) returns some-misfits-requires returns-2)

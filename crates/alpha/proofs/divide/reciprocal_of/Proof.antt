@@ -12,12 +12,6 @@ use Rattle.colours.proofs.Colours.{reciprocal-small}
 use Rattle.alpha.proofs.divide.reciprocal_of.Statement.{statement}
 use Rattle.alpha.proofs.divide.reciprocal_of.Tie as tie
 
-mul-result : tie.Need-mul-result
-mul-result c = search needs
-
-element-copy-out-result : tie.Need-element-copy-out-result
-element-copy-out-result c = search needs
-
 returns : tie.Need-returns
 returns c =
     let a = c .before .args .alpha in
@@ -26,4 +20,4 @@ returns c =
     (e, omega (arith, reciprocal-small a))
 
 pub reciprocal-of-spec : {M : Type 1} → statement M
-reciprocal-of-spec = tie.close (tie.spec mul-result element-copy-out-result returns)
+reciprocal-of-spec = tie.close (tie.spec (λ c. search needs) (λ c. search needs) returns)

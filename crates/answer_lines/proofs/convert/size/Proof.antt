@@ -29,14 +29,8 @@ cast-result c = rw (toZ-ofZ (c .before .fits .v), back c) (tt, record { fits = o
 add-result : tie.Need-add-result
 add-result c = rw (toZ-ofZ (c .before .fits .v), back c) (record { fits = omega (arith, low c .small) })
 
-returns : tie.Need-returns
-returns c = search needs
-
 cast-result-2 : tie.Need-cast-result-2
 cast-result-2 c = rw (toZ-ofZ (c .before .fits .v), high c .is) (tt, record { fits = omega (arith, high c .small) })
 
-returns-2 : tie.Need-returns-2
-returns-2 c = search needs
-
 pub size-spec : {M : Type 1} → statement M
-size-spec = tie.close (tie.spec sub-result cast-result add-result returns cast-result-2 returns-2)
+size-spec = tie.close (tie.spec sub-result cast-result add-result (λ c. search needs) cast-result-2 (λ c. search needs))

@@ -13,11 +13,5 @@ mul-t c = let l : c .args .colour ≤ 255 = omega arith in omega (arith, mul-le-
 add-t : tie.Need-add-t
 add-t c = let l : c .args .colour ≤ 255 = omega arith in omega (arith, mul-le-mul l (c .pre .1))
 
-returns : tie.Need-returns
-returns c = search needs
-
-returns-2 : tie.Need-returns-2
-returns-2 c = search needs
-
 pub clipped-quotient-spec : {M : Type 1} → statement M
-clipped-quotient-spec = tie.close (tie.spec mul-t add-t returns returns-2)
+clipped-quotient-spec = tie.close (tie.spec mul-t add-t (λ c. search needs) (λ c. search needs))

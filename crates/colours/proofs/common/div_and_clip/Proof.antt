@@ -12,14 +12,5 @@ mul-t c = let l : c .args .v ≤ 255 = omega arith in let m : c .args .recip ≤
 add-t : tie.Need-add-t
 add-t c = let l : c .args .v ≤ 255 = omega arith in let m : c .args .recip ≤ 4294967295 = omega arith in omega (arith, mul-le-mul l m)
 
-cast-result : tie.Need-cast-result
-cast-result c = search needs
-
-returns : tie.Need-returns
-returns c = search needs
-
-returns-2 : tie.Need-returns-2
-returns-2 c = search needs
-
 pub div-and-clip-spec : {M : Type 1} → statement M
-div-and-clip-spec = tie.close (tie.spec mul-t add-t cast-result returns returns-2)
+div-and-clip-spec = tie.close (tie.spec mul-t add-t (λ c. search needs) (λ c. search needs) (λ c. search needs))

@@ -15,12 +15,6 @@ fits h c a r e is k = rw (e, is) (held-fits (min c a) a k (omega arith))
 quotient : (h c a r : ℕ) → h ≡ min c a → r ≡ reciprocal a → a ≤ 65535 → (h * r + 2 ^ 32) / 2 ^ 33 ≡ divided c a
 quotient h c a r e is k = rw (e, is) (held c a k)
 
-held-requires : tie.Need-held-requires
-held-requires c κs = search needs
-
-cast-result : tie.Need-cast-result
-cast-result c = search needs
-
 mul-result : tie.Need-mul-result
 mul-result c = omega (arith, fits (c .held .result) (c .before .args .colour) (c .before .args .alpha) (c .before .args .recip) (c .held .ensures) (c .before .pre) (omega arith))
 
@@ -35,4 +29,4 @@ returns c = quotient (c .held .result) (c .before .args .colour) (c .before .arg
 
 pub div-and-clip16-spec : {M : Type 1} → statement M
 div-and-clip16-spec =
-    tie.close (tie.spec held-requires cast-result mul-result add-result cast-result-2 returns)
+    tie.close (tie.spec (λ c κs. search needs) (λ c. search needs) mul-result add-result cast-result-2 returns)

@@ -13,17 +13,8 @@ returns c = rw (c .if1 .taken)
 returns-2 : tie.Need-returns-2
 returns-2 c = rw (c .if2 .taken)
 
-add-result : tie.Need-add-result
-add-result c = search needs
-
-mul-result : tie.Need-mul-result
-mul-result c = search needs
-
-div-result : tie.Need-div-result
-div-result c = search needs
-
 returns-3 : tie.Need-returns-3
 returns-3 c = sym (reciprocal-is 65535 (2 ^ 33) (c .before .before .args .alpha) (omega arith))
 
 pub reciprocal-spec : {M : Type 1} → statement M
-reciprocal-spec = tie.close (tie.spec returns returns-2 add-result mul-result div-result returns-3)
+reciprocal-spec = tie.close (tie.spec returns returns-2 (λ c. search needs) (λ c. search needs) (λ c. search needs) returns-3)

@@ -7,24 +7,15 @@ use mathlib.Core.Path.{_∙_, sym}
 use Rattle.crop_box.specs.Crop.{cropOf}
 use Rattle.crop_box.proofs.FromZero.{all-from-zero}
 
-bad-sides-requires : tie.Need-bad-sides-requires
-bad-sides-requires c κs = search needs
-
 returns : tie.Need-returns
 unfolding cropOf
 returns c = rw (sym (c .before .bad-sides .ensures) ∙ c .if1 .taken)
-
-not-finite-requires : tie.Need-not-finite-requires
-not-finite-requires c κs = search needs
 
 returns-2 : tie.Need-returns-2
 unfolding cropOf
 returns-2 c =
     let one = c .before .before in
     rw (sym (one .before .bad-sides .ensures) ∙ one .if1 .left, sym (c .before .not-finite .ensures) ∙ c .if2 .taken)
-
-negative-extent-requires : tie.Need-negative-extent-requires
-negative-extent-requires c κs = search needs
 
 returns-3 : tie.Need-returns-3
 unfolding cropOf
@@ -36,9 +27,6 @@ returns-3 c =
       sym (two .before .not-finite .ensures) ∙ two .if2 .left,
       sym (c .before .negative-extent .ensures) ∙ c .if3 .taken,
     )
-
-start-outside-requires : tie.Need-start-outside-requires
-start-outside-requires c κs = search needs
 
 returns-4 : tie.Need-returns-4
 unfolding cropOf
@@ -98,15 +86,5 @@ returns-6 c =
 pub crop-spec : {M : Type 1} → statement M
 crop-spec =
     tie.close
-    (tie.spec
-    bad-sides-requires
-    returns
-    not-finite-requires
-    returns-2
-    negative-extent-requires
-    returns-3
-    start-outside-requires
-    returns-4
-    end-outside-requires
-    returns-5
-    returns-6)
+    (tie.spec (λ c κs. search needs) returns (λ c κs. search needs) returns-2 (λ c κs. search needs) returns-3 (λ c κs. search needs) returns-4
+    end-outside-requires returns-5 returns-6)

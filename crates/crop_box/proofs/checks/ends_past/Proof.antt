@@ -18,9 +18,6 @@ extent-held c = subst T (sym (c .good .1 .0 .1)) tt
 small : (c : tie.Start) → c .args .side ≤ 2 ^ 53
 small c = le-trans (le-of-lt (c .fits .side .fits)) (lit≤ tt)
 
-int-to-float-s : tie.Need-int-to-float-s
-int-to-float-s c = search needs
-
 returns : tie.Need-returns
 returns c =
     let b = c .before .before in
@@ -35,4 +32,4 @@ returns-2 c =
     left-over (b .args .side) (b .args .start) (b .args .extent) (small b) (start-held b) (extent-held b) (b .pre .0) (b .pre .1) (c .if1 .left)
 
 pub ends-past-spec : {M : Type 1} → statement M
-ends-past-spec = tie.close (tie.spec int-to-float-s returns returns-2)
+ends-past-spec = tie.close (tie.spec (λ c. search needs) returns returns-2)

@@ -5,12 +5,6 @@ use borrow.Author.Needs.{needs}
 use Rattle.crop_edges.proofs.decimal.before_of.Statement.{statement}
 use Rattle.crop_edges.proofs.decimal.before_of.Tie as tie
 
-point-at-requires : tie.Need-point-at-requires
-point-at-requires c κs = search needs
-
-whole-at-requires : tie.Need-whole-at-requires
-whole-at-requires c κs = search needs
-
 sub-result : tie.Need-sub-result
 sub-result c = rw (c .whole-at .ensures, c .before .point-at .ensures) (point-in (c .before .before .before .args .text .now) .0)
 
@@ -19,4 +13,4 @@ unfolding beforeOf
 returns c = rw (c .whole-at .ensures, c .before .point-at .ensures)
 
 pub before-of-spec : {M : Type 1} → statement M
-before-of-spec = tie.close (tie.spec point-at-requires whole-at-requires sub-result returns)
+before-of-spec = tie.close (tie.spec (λ c κs. search needs) (λ c κs. search needs) sub-result returns)

@@ -5,12 +5,6 @@ use borrow.Author.Needs.{needs}
 use Rattle.crop_edges.proofs.decimal.fraction_at.Statement.{statement}
 use Rattle.crop_edges.proofs.decimal.fraction_at.Tie as tie
 
-point-at-requires : tie.Need-point-at-requires
-point-at-requires c κs = search needs
-
-add-result : tie.Need-add-result
-add-result c = search needs
-
 returns : tie.Need-returns
 unfolding fractionAt
 returns c = rw (← c .before .point-at .ensures, lt-ltb _ _ (c .if1 .taken))
@@ -20,4 +14,4 @@ unfolding fractionAt
 returns-2 c = rw (← c .before .point-at .ensures, le-ltb _ _ (c .if1 .left))
 
 pub fraction-at-spec : {M : Type 1} → statement M
-fraction-at-spec = tie.close (tie.spec point-at-requires add-result returns returns-2)
+fraction-at-spec = tie.close (tie.spec (λ c κs. search needs) (λ c. search needs) returns returns-2)

@@ -10,12 +10,9 @@ returns : tie.Need-returns
 unfolding minus
 returns c = empty-minus (c .before .args .text .now) (c .if1 .taken)
 
-shared-slice-read-result : tie.Need-shared-slice-read-result
-shared-slice-read-result c = search needs
-
 returns-2 : tie.Need-returns-2
 unfolding minus
 returns-2 c = refl
 
 pub minus-spec : {M : Type 1} → statement M
-minus-spec = tie.close (tie.spec returns shared-slice-read-result returns-2)
+minus-spec = tie.close (tie.spec returns (λ c. search needs) returns-2)

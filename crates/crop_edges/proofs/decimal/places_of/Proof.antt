@@ -5,9 +5,6 @@ use borrow.Author.Needs.{needs}
 use Rattle.crop_edges.proofs.decimal.places_of.Statement.{statement}
 use Rattle.crop_edges.proofs.decimal.places_of.Tie as tie
 
-fraction-at-requires : tie.Need-fraction-at-requires
-fraction-at-requires c κs = search needs
-
 sub-result : tie.Need-sub-result
 sub-result c = rw (c .fraction-at .ensures) (fraction-in (c .before .before .args .text .now) .1)
 
@@ -16,4 +13,4 @@ unfolding placesOf
 returns c = rw (c .fraction-at .ensures)
 
 pub places-of-spec : {M : Type 1} → statement M
-places-of-spec = tie.close (tie.spec fraction-at-requires sub-result returns)
+places-of-spec = tie.close (tie.spec (λ c κs. search needs) sub-result returns)

@@ -25,12 +25,6 @@ mul-p c =
     let l : 10 ^ s .i ≤ 10 ^ 15 = pow-le-pow-right {n = 10} (lit< tt) {i = s .i} {j = 15} (omega arith) in
     record { fits = omega arith }
 
-add-i : tie.Need-add-i Inv-loop μ-loop
-add-i c = search needs
-
-loop-less : tie.Need-loop-less Inv-loop μ-loop
-loop-less c = search needs
-
 loop-again : tie.Need-loop-again Inv-loop μ-loop
 loop-again c = (search needs, simp (unary-clauses, c .before .loop .inv .1) refl)
 
@@ -41,4 +35,4 @@ returns c =
 
 pub power-spec : {M : Type 1} → statement M
 power-spec =
-    tie.close (tie.spec Inv-loop μ-loop loop-holds mul-p add-i loop-less loop-again returns)
+    tie.close (tie.spec Inv-loop μ-loop loop-holds mul-p (λ c. search needs) (λ c. search needs) loop-again returns)

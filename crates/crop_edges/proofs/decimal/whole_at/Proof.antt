@@ -5,9 +5,6 @@ use borrow.Author.Needs.{needs}
 use Rattle.crop_edges.proofs.decimal.whole_at.Statement.{statement}
 use Rattle.crop_edges.proofs.decimal.whole_at.Tie as tie
 
-minus-requires : tie.Need-minus-requires
-minus-requires c κs = search needs
-
 returns : tie.Need-returns
 unfolding wholeAt
 returns c = rw (sym (c .before .minus .ensures) ∙ c .if1 .taken)
@@ -17,4 +14,4 @@ unfolding wholeAt
 returns-2 c = rw (sym (c .before .minus .ensures) ∙ c .if1 .left)
 
 pub whole-at-spec : {M : Type 1} → statement M
-whole-at-spec = tie.close (tie.spec minus-requires returns returns-2)
+whole-at-spec = tie.close (tie.spec (λ c κs. search needs) returns returns-2)

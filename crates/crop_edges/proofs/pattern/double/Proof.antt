@@ -14,8 +14,5 @@ returns c = sym (nan-code binary64 (c .before .args .bits) (omega arith))
 float-from-bits-result : tie.Need-float-from-bits-result
 float-from-bits-result c = no-nan-code binary64 (c .before .args .bits) (omega arith)
 
-returns-2 : tie.Need-returns-2
-returns-2 c = search needs
-
 pub double-spec : {M : Type 1} → statement M
-double-spec = tie.close (tie.spec returns float-from-bits-result returns-2)
+double-spec = tie.close (tie.spec returns float-from-bits-result (λ c. search needs))

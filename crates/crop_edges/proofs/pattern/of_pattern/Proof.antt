@@ -11,12 +11,9 @@ use Rattle.crop_edges.proofs.pattern.of_pattern.Tie as tie
 continued-requires : tie.Need-continued-requires
 continued-requires c κs = (pattern-long (c .before .args .text .now) (c .before .pre), lit< tt, lit≤ tt)
 
-double-requires : tie.Need-double-requires
-double-requires c κs = search needs
-
 returns : tie.Need-returns
 unfolding patternOf
 returns c = c .double .ensures ∙ ap (ofBits binary64) (c .before .continued .ensures)
 
 pub of-pattern-spec : {M : Type 1} → statement M
-of-pattern-spec = tie.close (tie.spec continued-requires double-requires returns)
+of-pattern-spec = tie.close (tie.spec continued-requires (λ c κs. search needs) returns)

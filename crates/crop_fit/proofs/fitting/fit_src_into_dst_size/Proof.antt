@@ -7,27 +7,9 @@ use borrow.Author.Needs.{needs}
 use Rattle.crop_fit.proofs.fitting.fit_src_into_dst_size.Statement.{statement}
 use Rattle.crop_fit.proofs.fitting.fit_src_into_dst_size.Tie as tie
 
-large-sides-requires : tie.Need-large-sides-requires
-large-sides-requires c κs = search needs
-
 returns : tie.Need-returns
 unfolding fitOf
 returns c = rw (sym (c .before .large-sides .ensures) ∙ c .if1 .taken)
-
-enum-told : tie.Need-enum-told
-enum-told c = search needs
-
-fitted-requires : tie.Need-fitted-requires
-fitted-requires c κs = search needs
-
-enum-known-centring : tie.Need-enum-known-centring
-enum-known-centring c = search needs
-
-finite-requires : tie.Need-finite-requires
-finite-requires c κs = search needs
-
-finite-requires-2 : tie.Need-finite-requires-2
-finite-requires-2 c κs = search needs
 
 returns-2 : tie.Need-returns-2
 unfolding fitOf
@@ -38,15 +20,6 @@ returns-2 c =
     let one = at .before .before in
     let bad = rw (first .finite .ensures, second .finite2 .ensures) at (c .if2 .taken) in
     rw (sym (one .before .large-sides .ensures) ∙ one .if1 .left, at .centring .given .1, bad)
-
-clamp01-requires : tie.Need-clamp01-requires
-clamp01-requires c κs = search needs
-
-clamp01-requires-2 : tie.Need-clamp01-requires-2
-clamp01-requires-2 c κs = search needs
-
-fitted-requires-2 : tie.Need-fitted-requires-2
-fitted-requires-2 c κs = search needs
 
 returns-3 : tie.Need-returns-3
 unfolding fitOf
@@ -78,17 +51,5 @@ returns-4 c =
 pub fit-src-into-dst-size-spec : {M : Type 1} → statement M
 fit-src-into-dst-size-spec =
     tie.close
-    (tie.spec
-    large-sides-requires
-    returns
-    enum-told
-    fitted-requires
-    enum-known-centring
-    finite-requires
-    finite-requires-2
-    returns-2
-    clamp01-requires
-    clamp01-requires-2
-    fitted-requires-2
-    returns-3
-    returns-4)
+    (tie.spec (λ c κs. search needs) returns (λ c. search needs) (λ c κs. search needs) (λ c. search needs) (λ c κs. search needs) (λ c κs. search needs)
+    returns-2 (λ c κs. search needs) (λ c κs. search needs) (λ c κs. search needs) returns-3 returns-4)

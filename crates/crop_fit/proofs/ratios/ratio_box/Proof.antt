@@ -4,25 +4,13 @@ use Rattle.crop_fit.proofs.ratios.ratio_box.Statement.{statement}
 use Rattle.crop_fit.proofs.ratios.ratio_box.Tie as tie
 use Rattle.crop_fit.specs.Fit.{ratioBox}
 
-abs-requires : tie.Need-abs-requires
-abs-requires c κs = search needs
-
-placed-requires : tie.Need-placed-requires
-placed-requires c κs = search needs
-
 returns : tie.Need-returns
 unfolding ratioBox
 returns c = rw (← c .before .before .abs .ensures, c .before .if1 .taken) (c .placed .ensures)
 
-placed-requires-2 : tie.Need-placed-requires-2
-placed-requires-2 c κs = search needs
-
 returns-2 : tie.Need-returns-2
 unfolding ratioBox
 returns-2 c = rw (← c .before .before .before .abs .ensures, c .before .before .if1 .left, c .before .if2 .taken) (c .placed2 .ensures)
-
-placed-requires-3 : tie.Need-placed-requires-3
-placed-requires-3 c κs = search needs
 
 returns-3 : tie.Need-returns-3
 unfolding ratioBox
@@ -31,11 +19,4 @@ returns-3 c = rw (← c .before .before .before .abs .ensures, c .before .before
 pub ratio-box-spec : {M : Type 1} → statement M
 ratio-box-spec =
     tie.close
-    (tie.spec
-    abs-requires
-    placed-requires
-    returns
-    placed-requires-2
-    returns-2
-    placed-requires-3
-    returns-3)
+    (tie.spec (λ c κs. search needs) (λ c κs. search needs) returns (λ c κs. search needs) returns-2 (λ c κs. search needs) returns-3)

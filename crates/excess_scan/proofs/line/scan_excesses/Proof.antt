@@ -9,18 +9,6 @@ use borrow.Author.Needs.{needs}
 use Rattle.excess_scan.proofs.line.scan_excesses.Statement.{statement}
 use Rattle.excess_scan.proofs.line.scan_excesses.Tie as tie
 
-slice-aggregate-take-key : tie.Need-slice-aggregate-take-key
-slice-aggregate-take-key c = search needs
-
-take-key-requires : tie.Need-take-key-requires
-take-key-requires c κs = search needs
-
-enum-known-stop : tie.Need-enum-known-stop
-enum-known-stop c = search needs
-
-enum-known-next : tie.Need-enum-known-next
-enum-known-next c = search needs
-
 scan-list-requires : tie.Need-scan-list-requires
 scan-list-requires c κs = let a = c .before .before .before .before .before .before in
     let found = rw (c .before .next .given .1) at (c .before .before .before .take-key .ensures) in
@@ -40,11 +28,4 @@ returns-2 c = let a = c .before .before .before .before .before .before .before 
 pub scan-excesses-spec : {M : Type 1} → statement M
 scan-excesses-spec =
     tie.close
-    (tie.spec
-    slice-aggregate-take-key
-    take-key-requires
-    enum-known-stop
-    enum-known-next
-    scan-list-requires
-    returns
-    returns-2)
+    (tie.spec (λ c. search needs) (λ c κs. search needs) (λ c. search needs) (λ c. search needs) scan-list-requires returns returns-2)

@@ -36,20 +36,8 @@ window-excess-requires c κs = let a = c .before .before .before .before in
     let few = a .pre .0 .1 in
     ((a .pre .0 .5, a .pre .0 .3, a .pre .0 .4, omega arith, found-within _ (inv .within) f), lined-items _ _ _ _ _ _ (search needs) inv (search needs) f (a .pre .1 .1))
 
-item-end-requires : tie.Need-item-end-requires Inv-loop μ-loop
-item-end-requires c κs = search needs
-
 take-known-requires : tie.Need-take-known-requires Inv-loop μ-loop
 take-known-requires c κs = (c .before .before .before .before .before .loop .inv .within)
-
-enum-known-item : tie.Need-enum-known-item Inv-loop μ-loop
-enum-known-item c = search needs
-
-enum-told : tie.Need-enum-told Inv-loop μ-loop
-enum-told c = search needs
-
-place-stop-requires : tie.Need-place-stop-requires Inv-loop μ-loop
-place-stop-requires c κs = search needs
 
 returns : tie.Need-returns Inv-loop μ-loop
 returns c =
@@ -61,12 +49,6 @@ returns c =
     let stopped = rw (t, toZ-ofZ fits) at (c .before .before .before .take-known .ensures) in
     rw (c .place-stop .ensures ∙ ap passPlace t)
     (compared-stopped _ _ _ _ _ _ _ _ (search needs) (a .pre .1 .1) inv (search needs) (c .before .before .before .before .before .before .before .opened .ensures) (e .ensures) (c .before .before .before .before .before .item-end .ensures) stopped)
-
-add-i : tie.Need-add-i Inv-loop μ-loop
-add-i c = search needs
-
-loop-less : tie.Need-loop-less Inv-loop μ-loop
-loop-less c = search needs
 
 loop-again : tie.Need-loop-again Inv-loop μ-loop
 loop-again c =
@@ -83,19 +65,5 @@ returns-2 c = λ rows next f. (tt, compared-all _ _ _ _ _ _ _ _ (c .before .loop
 pub scan-list-spec : {M : Type 1} → statement M
 scan-list-spec =
     tie.close
-    (tie.spec
-    Inv-loop
-    μ-loop
-    loop-holds
-    opened-requires
-    window-excess-requires
-    item-end-requires
-    take-known-requires
-    enum-known-item
-    enum-told
-    place-stop-requires
-    returns
-    add-i
-    loop-less
-    loop-again
-    returns-2)
+    (tie.spec Inv-loop μ-loop loop-holds opened-requires window-excess-requires (λ c κs. search needs) take-known-requires (λ c. search needs)
+    (λ c. search needs) (λ c κs. search needs) returns (λ c. search needs) (λ c. search needs) loop-again returns-2)

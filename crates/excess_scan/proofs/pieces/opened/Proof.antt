@@ -6,15 +6,6 @@ use mathlib.Core.Path.{_≡_, refl, sym, ap, _∙_}
 use Rattle.scan.proofs.FormLaws.{not-both}
 use native.Mathlib.Omega.{arith}
 
-take-open-requires : tie.Need-take-open-requires
-take-open-requires c κs = search needs
-
-enum-known-start : tie.Need-enum-known-start
-enum-known-start c = search needs
-
-enum-known-stop : tie.Need-enum-known-stop
-enum-known-stop c = search needs
-
 returns : tie.Need-returns
 returns c = rw (c .before .start .given .1) at (c .before .before .before .take-open .ensures)
 
@@ -25,4 +16,4 @@ returns-2 c =
 
 pub opened-spec : {M : Type 1} → statement M
 opened-spec =
-    tie.close (tie.spec take-open-requires enum-known-start enum-known-stop returns returns-2)
+    tie.close (tie.spec (λ c κs. search needs) (λ c. search needs) (λ c. search needs) returns returns-2)

@@ -11,20 +11,11 @@ use Rattle.sheet_scan.proofs.RowLaws.{item-plain}
 use Rattle.excess_scan.proofs.InsideLaws.{inside-fits}
 use native.Mathlib.Omega.{arith}
 
-item-end-requires : tie.Need-item-end-requires
-item-end-requires c κs = search needs
-
 take-signed-requires : tie.Need-take-signed-requires
 take-signed-requires c κs =
     let pre = c .before .before .pre .0 in
     let small = pre .1 in
     (pre .0, omega arith, subst NoDigit (sym (c .item-end .ensures)) (item-plain (c .before .before .args .size) (c .before .before .args .j)), pre .2)
-
-enum-known-value : tie.Need-enum-known-value
-enum-known-value c = search needs
-
-enum-known-stop : tie.Need-enum-known-stop
-enum-known-stop c = search needs
 
 returns : tie.Need-returns
 returns c =
@@ -41,10 +32,4 @@ returns-2 c =
 pub weight-spec : {M : Type 1} → statement M
 weight-spec =
     tie.close
-    (tie.spec
-    item-end-requires
-    take-signed-requires
-    enum-known-value
-    enum-known-stop
-    returns
-    returns-2)
+    (tie.spec (λ c κs. search needs) take-signed-requires (λ c. search needs) (λ c. search needs) returns returns-2)

@@ -41,12 +41,6 @@ add-requires c κs =
     let v = c .before .weight .result .value in
     (omega (arith, inv .small, inv .along .few), rw (toZ-ofZ (inside-fits w64 (a .args .limit) v (omega arith) good)) (inside-small (a .args .limit) v small good))
 
-add-j : tie.Need-add-j Inv-loop μ-loop
-add-j c = search needs
-
-loop-less : tie.Need-loop-less Inv-loop μ-loop
-loop-less c = search needs
-
 loop-again : tie.Need-loop-again Inv-loop μ-loop
 loop-again c =
     let a = c .before .before .before .before .before .before in
@@ -66,13 +60,4 @@ returns c =
 pub total-spec : {M : Type 1} → statement M
 total-spec =
     tie.close
-    (tie.spec
-    Inv-loop
-    μ-loop
-    loop-holds
-    weight-requires
-    add-requires
-    add-j
-    loop-less
-    loop-again
-    returns)
+    (tie.spec Inv-loop μ-loop loop-holds weight-requires add-requires (λ c. search needs) (λ c. search needs) loop-again returns)

@@ -11,12 +11,6 @@ use Rattle.excesses.proofs.SumLaws.{back, sub-fits, sub-is}
 use Rattle.excess_scan.proofs.totals.window_excess.Statement.{statement}
 use Rattle.excess_scan.proofs.totals.window_excess.Tie as tie
 
-total-requires : tie.Need-total-requires
-total-requires c κs = search needs
-
-power-requires : tie.Need-power-requires
-power-requires c κs = search needs
-
 sub-t8 : tie.Need-sub-t8
 sub-t8 c =
     let a = c .before .before .before .before .before in
@@ -40,4 +34,4 @@ returns c l next f =
     (sub-is {a = t .result .value} same (back (p .ok) ∙ p .ensures) (omega arith) (omega arith) ∙ rw (told .0) refl, told .1)
 
 pub window-excess-spec : {M : Type 1} → statement M
-window-excess-spec = tie.close (tie.spec total-requires power-requires sub-t8 returns)
+window-excess-spec = tie.close (tie.spec (λ c κs. search needs) (λ c κs. search needs) sub-t8 returns)

@@ -9,24 +9,15 @@ use Rattle.windows.specs.Fit.{badSet}
 use Rattle.excesses.proofs.judge.shape_fits.Statement.{statement}
 use Rattle.excesses.proofs.judge.shape_fits.Tie as tie
 
-sides-fit-requires : tie.Need-sides-fit-requires
-sides-fit-requires c κs = search needs
-
 returns : tie.Need-returns
 returns c =
     let a = c .before .before .before .before .args in
     rw (asked-bad (badSides (a .lines) (length (a .starts .now))) (c .before .sides-fit .ensures) (c .if1 .taken))
 
-set-fits-requires : tie.Need-set-fits-requires
-set-fits-requires c κs = search needs
-
 returns-2 : tie.Need-returns-2
 returns-2 c =
     let a = c .before .before .before .before .before .before .args in
     rw (asked-good (badSides (a .lines) (length (a .starts .now))) (c .before .before .before .sides-fit .ensures) (c .before .before .if1 .left), asked-bad (badSet (layoutOf (a .lines) (a .window-size) (a .starts .now) (a .sizes .now)) (a .slots)) (c .before .set-fits .ensures) (c .if2 .taken))
-
-precision-fits-requires : tie.Need-precision-fits-requires
-precision-fits-requires c κs = search needs
 
 returns-3 : tie.Need-returns-3
 returns-3 c =
@@ -36,10 +27,4 @@ returns-3 c =
 pub shape-fits-spec : {M : Type 1} → statement M
 shape-fits-spec =
     tie.close
-    (tie.spec
-    sides-fit-requires
-    returns
-    set-fits-requires
-    returns-2
-    precision-fits-requires
-    returns-3)
+    (tie.spec (λ c κs. search needs) returns (λ c κs. search needs) returns-2 (λ c κs. search needs) returns-3)

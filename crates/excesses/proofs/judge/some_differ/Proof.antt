@@ -27,12 +27,6 @@ abbrev μ-loop : tie.MeasureT-loop
 loop-holds : tie.Need-loop-holds Inv-loop μ-loop
 loop-holds c = (omega arith, omega arith, refl)
 
-mul-excess-of : tie.Need-mul-excess-of Inv-loop μ-loop
-mul-excess-of c = search needs
-
-shared-slice-read-excess-of : tie.Need-shared-slice-read-excess-of Inv-loop μ-loop
-shared-slice-read-excess-of c = search needs
-
 cast-excess-of : tie.Need-cast-excess-of Inv-loop μ-loop
 cast-excess-of c = record { fits = omega (arith, c .shared-slice-known2 .given (c .before .before .loop .i) .fits) }
 
@@ -44,15 +38,6 @@ excess-of-requires c κs =
     let h : l .loop .i < length (s .args .sizes .now) = omega arith in
     (s .pre .0 .0, s .pre .1 .few (l .loop .i) h, weights-end (s .args .window) ws (s .args .sizes .now) (s .pre .1) (l .loop .a) (l .loop .i) (l .loop .inv .1) h)
 
-mul-differ : tie.Need-mul-differ Inv-loop μ-loop
-mul-differ c = search needs
-
-shared-slice-copy-out-differ : tie.Need-shared-slice-copy-out-differ Inv-loop μ-loop
-shared-slice-copy-out-differ c = search needs
-
-differ-requires : tie.Need-differ-requires Inv-loop μ-loop
-differ-requires c κs = search needs
-
 add-a : tie.Need-add-a Inv-loop μ-loop
 add-a c =
     let l = c .before .before .before .before .before in
@@ -60,12 +45,6 @@ add-a c =
     let ws = length (lent (s .args .wide) (s .args .short .now) (s .args .long .now)) in
     let h : l .loop .i < length (s .args .sizes .now) = omega arith in
     record { fits = omega (arith, window-ends (s .args .window) ws (s .args .sizes .now) (s .pre .1) (l .loop .a) (l .loop .i) (l .loop .inv .1) h) }
-
-add-i : tie.Need-add-i Inv-loop μ-loop
-add-i c = search needs
-
-loop-less : tie.Need-loop-less Inv-loop μ-loop
-loop-less c = search needs
 
 loop-again : tie.Need-loop-again Inv-loop μ-loop
 loop-again c =
@@ -89,19 +68,5 @@ returns c =
 pub some-differ-spec : {M : Type 1} → statement M
 some-differ-spec =
     tie.close
-    (tie.spec
-    Inv-loop
-    μ-loop
-    loop-holds
-    mul-excess-of
-    shared-slice-read-excess-of
-    cast-excess-of
-    excess-of-requires
-    mul-differ
-    shared-slice-copy-out-differ
-    differ-requires
-    add-a
-    add-i
-    loop-less
-    loop-again
-    returns)
+    (tie.spec Inv-loop μ-loop loop-holds (λ c. search needs) (λ c. search needs) cast-excess-of excess-of-requires (λ c. search needs) (λ c. search needs)
+    (λ c κs. search needs) add-a (λ c. search needs) (λ c. search needs) loop-again returns)

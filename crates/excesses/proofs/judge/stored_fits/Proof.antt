@@ -18,12 +18,6 @@ set s =
     storedOf (setOf (layoutOf (s .args .lines) (s .args .window-size) (s .args .starts .now) (s .args .sizes .now)) (lent (s .args .wide) (s .args .short .now) (s .args .long .now)))
     (s .args .precision) (s .args .excesses .now)
 
-slot-count-requires : tie.Need-slot-count-requires
-slot-count-requires c κs = search needs
-
-shape-fits-requires : tie.Need-shape-fits-requires
-shape-fits-requires c κs = search needs
-
 -- the set of a call whose shape was judged, and what the judge said of it
 abbrev shaped : tie.After-shape-fits → Stored
 shaped c = set (c .before .before .before .before)
@@ -60,10 +54,4 @@ returns-3 c =
 pub stored-fits-spec : {M : Type 1} → statement M
 stored-fits-spec =
     tie.close
-    (tie.spec
-    slot-count-requires
-    shape-fits-requires
-    returns
-    returns-2
-    some-differ-requires
-    returns-3)
+    (tie.spec (λ c κs. search needs) (λ c κs. search needs) returns returns-2 some-differ-requires returns-3)

@@ -9,12 +9,6 @@ use Rattle.excesses.proofs.SumLaws.{back, sub-fits, sub-is}
 use Rattle.excesses.proofs.sums.excess_of.Statement.{statement}
 use Rattle.excesses.proofs.sums.excess_of.Tie as tie
 
-total-requires : tie.Need-total-requires
-total-requires c κs = search needs
-
-power-requires : tie.Need-power-requires
-power-requires c κs = search needs
-
 sub-result : tie.Need-sub-result
 sub-result c =
     let h : 2 ^ (c .before .before .args .p) ≤ 2 ^ 45 = pow-le-pow-right {n = 2} (omega arith) (c .before .before .pre .0) in
@@ -27,4 +21,4 @@ returns c =
     sub-is {a = c .before .total .result} (back (c .before .total .ok)) (back (c .power .ok) ∙ c .power .ensures) (omega (arith, c .before .total .ensures .1)) (omega arith) ∙ rw (c .before .total .ensures .0) refl
 
 pub excess-of-spec : {M : Type 1} → statement M
-excess-of-spec = tie.close (tie.spec total-requires power-requires sub-result returns)
+excess-of-spec = tie.close (tie.spec (λ c κs. search needs) (λ c κs. search needs) sub-result returns)

@@ -9,12 +9,6 @@ use borrow.Author.Needs.{needs}
 use Rattle.excesses.proofs.sums.power.Statement.{statement}
 use Rattle.excesses.proofs.sums.power.Tie as tie
 
-cast-result : tie.Need-cast-result
-cast-result c = search needs
-
-shl-result : tie.Need-shl-result
-shl-result c = search needs
-
 returns : tie.Need-returns
 returns c =
     let n : ℕ = 2 ^ (c .args .p) in
@@ -23,4 +17,4 @@ returns c =
     rw e (toZ-pos w64 {n = n} (omega arith))
 
 pub power-spec : {M : Type 1} → statement M
-power-spec = tie.close (tie.spec cast-result shl-result returns)
+power-spec = tie.close (tie.spec (λ c. search needs) (λ c. search needs) returns)

@@ -29,19 +29,10 @@ add-weight-at c =
     let some : length (lent (a .wide) (a .short .now) (a .long .now)) < 2 ^ 64 = lent-long (a .wide) (a .short .now) (a .long .now) (search needs) (search needs) in
     search needs
 
-weight-at-requires : tie.Need-weight-at-requires Inv-loop μ-loop
-weight-at-requires c κs = search needs
-
 add-requires : tie.Need-add-requires Inv-loop μ-loop
 add-requires c κs =
     let l = c .before .before in
     (omega (arith, l .loop .inv .2, l .before .pre .0), rw (back (c .weight-at .ok)) (c .weight-at .ensures .1))
-
-add-k : tie.Need-add-k Inv-loop μ-loop
-add-k c = search needs
-
-loop-less : tie.Need-loop-less Inv-loop μ-loop
-loop-less c = search needs
 
 loop-again : tie.Need-loop-again Inv-loop μ-loop
 loop-again c =
@@ -61,14 +52,4 @@ returns c =
 pub total-spec : {M : Type 1} → statement M
 total-spec =
     tie.close
-    (tie.spec
-    Inv-loop
-    μ-loop
-    loop-holds
-    add-weight-at
-    weight-at-requires
-    add-requires
-    add-k
-    loop-less
-    loop-again
-    returns)
+    (tie.spec Inv-loop μ-loop loop-holds add-weight-at (λ c κs. search needs) add-requires (λ c. search needs) (λ c. search needs) loop-again returns)

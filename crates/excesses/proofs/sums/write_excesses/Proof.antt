@@ -22,12 +22,6 @@ abbrev μ-loop : tie.MeasureT-loop
 loop-holds : tie.Need-loop-holds Inv-loop μ-loop
 loop-holds c = (omega arith, omega arith, written-none)
 
-mul-excess-of : tie.Need-mul-excess-of Inv-loop μ-loop
-mul-excess-of c = search needs
-
-shared-slice-read-excess-of : tie.Need-shared-slice-read-excess-of Inv-loop μ-loop
-shared-slice-read-excess-of c = search needs
-
 cast-excess-of : tie.Need-cast-excess-of Inv-loop μ-loop
 cast-excess-of c = record { fits = omega (arith, c .shared-slice-known2 .given (c .before .before .loop .i) .fits) }
 
@@ -39,12 +33,6 @@ excess-of-requires c κs =
     let h : l .loop .i < length (s .args .sizes .now) = omega arith in
     (s .pre .0 .0, s .pre .1 .few (l .loop .i) h, weights-end (s .args .window) ws (s .args .sizes .now) (s .pre .1) (l .loop .a) (l .loop .i) (l .loop .inv .1) h)
 
-mul-t16 : tie.Need-mul-t16 Inv-loop μ-loop
-mul-t16 c = search needs
-
-slice-set-from-out : tie.Need-slice-set-from-out Inv-loop μ-loop
-slice-set-from-out c = search needs
-
 add-a : tie.Need-add-a Inv-loop μ-loop
 add-a c =
     let l = c .before .before .before in
@@ -52,12 +40,6 @@ add-a c =
     let ws = length (lent (s .args .wide) (s .args .short .now) (s .args .long .now)) in
     let h : l .loop .i < length (s .args .sizes .now) = omega arith in
     record { fits = omega (arith, window-ends (s .args .window) ws (s .args .sizes .now) (s .pre .1) (l .loop .a) (l .loop .i) (l .loop .inv .1) h) }
-
-add-i : tie.Need-add-i Inv-loop μ-loop
-add-i c = search needs
-
-loop-less : tie.Need-loop-less Inv-loop μ-loop
-loop-less c = search needs
 
 loop-again : tie.Need-loop-again Inv-loop μ-loop
 loop-again c =
@@ -72,9 +54,6 @@ loop-again c =
           (excess-is ws (a .p) (getD (a .sizes .now) i 0) (l .loop .a) (i * a .window) (back (c .excess-of .ok) ∙ c .excess-of .ensures) (l .loop .inv .1)),
     )
 
-same-length : tie.Need-same-length Inv-loop μ-loop
-same-length c = search needs
-
 returns : tie.Need-returns Inv-loop μ-loop
 returns c =
     let all : c .before .loop .i ≡ length (c .before .before .before .args .sizes .now) = omega arith in
@@ -83,19 +62,5 @@ returns c =
 pub write-excesses-spec : {M : Type 1} → statement M
 write-excesses-spec =
     tie.close
-    (tie.spec
-    Inv-loop
-    μ-loop
-    loop-holds
-    mul-excess-of
-    shared-slice-read-excess-of
-    cast-excess-of
-    excess-of-requires
-    mul-t16
-    slice-set-from-out
-    add-a
-    add-i
-    loop-less
-    loop-again
-    same-length
-    returns)
+    (tie.spec Inv-loop μ-loop loop-holds (λ c. search needs) (λ c. search needs) cast-excess-of excess-of-requires (λ c. search needs) (λ c. search needs)
+    add-a (λ c. search needs) (λ c. search needs) loop-again (λ c. search needs) returns)

@@ -8,11 +8,5 @@ use Rattle.finite_f32.proofs.count.counted.Tie as tie
 returns : tie.Need-returns
 returns c = let b = c .before .before in sym (infinities-none (b .args .out .now) (b .pre .1 (c .if1 .taken)))
 
-infinities-requires : tie.Need-infinities-requires
-infinities-requires c κs = search needs
-
-returns-2 : tie.Need-returns-2
-returns-2 c = search needs
-
 pub counted-spec : {M : Type 1} → statement M
-counted-spec = tie.close (tie.spec returns infinities-requires returns-2)
+counted-spec = tie.close (tie.spec returns (λ c κs. search needs) (λ c. search needs))

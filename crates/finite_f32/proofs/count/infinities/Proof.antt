@@ -26,12 +26,6 @@ at-most false = omega arith
 loop-holds : tie.Need-loop-holds Inv-loop μ-loop
 loop-holds c = (omega arith, omega arith, infinities-start (c .before .args .out .now))
 
-mul-one : tie.Need-mul-one Inv-loop μ-loop
-mul-one c = omega arith
-
-shared-slice-read-one : tie.Need-shared-slice-read-one Inv-loop μ-loop
-shared-slice-read-one c = omega arith
-
 one-requires : tie.Need-one-requires Inv-loop μ-loop
 one-requires c κs = tt
 
@@ -40,12 +34,6 @@ add-n c =
     let l = c .before .before .before in
     let a = l .before .before .args in
     record { fits = omega (arith, l .before .before .pre, at-most (isInfinite (getD (a .out .now) (l .loop .k) nan)), c .one .ensures) }
-
-add-k : tie.Need-add-k Inv-loop μ-loop
-add-k c = omega arith
-
-loop-less : tie.Need-loop-less Inv-loop μ-loop
-loop-less c = omega arith
 
 loop-again : tie.Need-loop-again Inv-loop μ-loop
 loop-again c =
@@ -62,15 +50,4 @@ returns c = let l = c .before in l .loop .inv .2 ∙ ap infinities (take-all (l 
 pub infinities-spec : {M : Type 1} → statement M
 infinities-spec =
     tie.close
-    (tie.spec
-    Inv-loop
-    μ-loop
-    loop-holds
-    mul-one
-    shared-slice-read-one
-    one-requires
-    add-n
-    add-k
-    loop-less
-    loop-again
-    returns)
+    (tie.spec Inv-loop μ-loop loop-holds (λ c. omega arith) (λ c. omega arith) one-requires add-n (λ c. omega arith) (λ c. omega arith) loop-again returns)

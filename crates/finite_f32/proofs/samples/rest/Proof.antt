@@ -41,12 +41,6 @@ shared-slice-read-zero-step c = omega (arith, c .before .before .before .before 
 zero-step-requires : tie.Need-zero-step-requires Inv-loop μ-loop
 zero-step-requires c κs = tt
 
-add-x : tie.Need-add-x Inv-loop μ-loop
-add-x c = omega arith
-
-loop-less : tie.Need-loop-less Inv-loop μ-loop
-loop-less c = omega arith
-
 loop-again : tie.Need-loop-again Inv-loop μ-loop
 loop-again c =
     let l = c .before .before .before in
@@ -70,15 +64,5 @@ returns c =
 pub rest-spec : {M : Type 1} → statement M
 rest-spec =
     tie.close
-    (tie.spec
-    Inv-loop
-    μ-loop
-    loop-holds
-    add-zero-step
-    mul-zero-step
-    shared-slice-read-zero-step
-    zero-step-requires
-    add-x
-    loop-less
-    loop-again
-    returns)
+    (tie.spec Inv-loop μ-loop loop-holds add-zero-step mul-zero-step shared-slice-read-zero-step zero-step-requires (λ c. omega arith) (λ c. omega arith)
+    loop-again returns)

@@ -45,12 +45,6 @@ rest-requires c κs =
     let q = l .before .before .pre .1 in
     (l .loop .inv .1, omega (arith, row-end (l .loop .y) (a .to) (a .row) (c .loop-test .taken), q .2, q .3))
 
-add-y : tie.Need-add-y Inv-loop μ-loop
-add-y c = omega arith
-
-loop-less : tie.Need-loop-less Inv-loop μ-loop
-loop-less c = omega arith
-
 loop-again : tie.Need-loop-again Inv-loop μ-loop
 loop-again c =
     let l = c .before .before in
@@ -72,14 +66,4 @@ returns c =
 pub rests-spec : {M : Type 1} → statement M
 rests-spec =
     tie.close
-    (tie.spec
-    Inv-loop
-    μ-loop
-    loop-holds
-    mul-rest
-    add-rest
-    rest-requires
-    add-y
-    loop-less
-    loop-again
-    returns)
+    (tie.spec Inv-loop μ-loop loop-holds mul-rest add-rest rest-requires (λ c. omega arith) (λ c. omega arith) loop-again returns)

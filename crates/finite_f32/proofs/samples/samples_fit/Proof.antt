@@ -48,20 +48,8 @@ loop-holds c = (
   (λ f. (start-zeros 16, start-zero)),
 )
 
-mul-wide : tie.Need-mul-wide Inv-loop μ-loop
-mul-wide c = omega arith
-
-shared-slice-read-wide : tie.Need-shared-slice-read-wide Inv-loop μ-loop
-shared-slice-read-wide c = omega arith
-
 wide-requires : tie.Need-wide-requires Inv-loop μ-loop
 wide-requires c κs = tt
-
-mul-wide-2 : tie.Need-mul-wide-2 Inv-loop μ-loop
-mul-wide-2 c = omega arith
-
-shared-slice-read-wide-2 : tie.Need-shared-slice-read-wide-2 Inv-loop μ-loop
-shared-slice-read-wide-2 c = omega arith
 
 wide-requires-2 : tie.Need-wide-requires-2 Inv-loop μ-loop
 wide-requires-2 c κs = tt
@@ -101,12 +89,6 @@ rests-requires c κs =
 
 greater-requires : tie.Need-greater-requires Inv-loop μ-loop
 greater-requires c κs = tt
-
-add-i : tie.Need-add-i Inv-loop μ-loop
-add-i c = omega arith
-
-loop-less : tie.Need-loop-less Inv-loop μ-loop
-loop-less c = omega arith
 
 loop-again : tie.Need-loop-again Inv-loop μ-loop
 loop-again c =
@@ -162,26 +144,6 @@ returns-2 c =
 pub samples-fit-spec : {M : Type 1} → statement M
 samples-fit-spec =
     tie.close
-    (tie.spec
-    Inv-loop
-    μ-loop
-    loop-holds
-    mul-wide
-    shared-slice-read-wide
-    wide-requires
-    mul-wide-2
-    shared-slice-read-wide-2
-    wide-requires-2
-    add-e
-    resume-requires
-    lines16-requires
-    mul-rests
-    rests-requires
-    greater-requires
-    add-i
-    loop-less
-    loop-again
-    all-zero-requires
-    returns
-    is-zero-requires
-    returns-2)
+    (tie.spec Inv-loop μ-loop loop-holds (λ c. omega arith) (λ c. omega arith) wide-requires (λ c. omega arith) (λ c. omega arith) wide-requires-2 add-e
+    resume-requires lines16-requires mul-rests rests-requires greater-requires (λ c. omega arith) (λ c. omega arith) loop-again all-zero-requires returns
+    is-zero-requires returns-2)

@@ -25,20 +25,8 @@ abbrev μ-loop : tie.MeasureT-loop
 loop-holds : tie.Need-loop-holds Inv-loop μ-loop
 loop-holds c = (omega arith, zero-flag (ofBits binary32 0) start-zero, (λ z x h. absurd (not-suc-le-zero h)), (λ h. start-zero))
 
-mul-zero-step : tie.Need-mul-zero-step Inv-loop μ-loop
-mul-zero-step c = omega arith
-
-array-read-zero-step : tie.Need-array-read-zero-step Inv-loop μ-loop
-array-read-zero-step c = omega arith
-
 zero-step-requires : tie.Need-zero-step-requires Inv-loop μ-loop
 zero-step-requires c κs = tt
-
-add-t : tie.Need-add-t Inv-loop μ-loop
-add-t c = omega arith
-
-loop-less : tie.Need-loop-less Inv-loop μ-loop
-loop-less c = omega arith
 
 loop-again : tie.Need-loop-again Inv-loop μ-loop
 loop-again c =
@@ -68,15 +56,5 @@ returns c =
 pub all-zero-spec : {M : Type 1} → statement M
 all-zero-spec =
     tie.close
-    (tie.spec
-    Inv-loop
-    μ-loop
-    loop-holds
-    mul-zero-step
-    array-read-zero-step
-    zero-step-requires
-    add-t
-    loop-less
-    loop-again
-    is-zero-requires
-    returns)
+    (tie.spec Inv-loop μ-loop loop-holds (λ c. omega arith) (λ c. omega arith) zero-step-requires (λ c. omega arith) (λ c. omega arith) loop-again
+    is-zero-requires returns)

@@ -47,12 +47,6 @@ zeros-requires c κs =
     let q = l .before .before .pre .1 in
     (l .loop .inv .1, l .loop .inv .2, omega (arith, row-end (l .loop .y) (a .to) (a .row) (c .loop-test .taken), q .2, q .3))
 
-add-y : tie.Need-add-y Inv-loop μ-loop
-add-y c = omega arith
-
-loop-less : tie.Need-loop-less Inv-loop μ-loop
-loop-less c = omega arith
-
 loop-again : tie.Need-loop-again Inv-loop μ-loop
 loop-again c =
     let l = c .before .before in
@@ -75,14 +69,4 @@ returns c =
 pub lines16-spec : {M : Type 1} → statement M
 lines16-spec =
     tie.close
-    (tie.spec
-    Inv-loop
-    μ-loop
-    loop-holds
-    mul-zeros
-    add-zeros
-    zeros-requires
-    add-y
-    loop-less
-    loop-again
-    returns)
+    (tie.spec Inv-loop μ-loop loop-holds mul-zeros add-zeros zeros-requires (λ c. omega arith) (λ c. omega arith) loop-again returns)

@@ -24,20 +24,11 @@ abbrev μ-loop : tie.MeasureT-loop
 loop-holds : tie.Need-loop-holds Inv-loop μ-loop
 loop-holds c = let p = c .before .pre in (omega arith, p .0, p .1, (λ z. z), (λ z t p h. absurd (not-suc-le-zero h)), (λ z f. z))
 
-mul-zero16 : tie.Need-mul-zero16 Inv-loop μ-loop
-mul-zero16 c = omega arith
-
 add-zero16 : tie.Need-add-zero16 Inv-loop μ-loop
 add-zero16 c = omega (arith, c .before .before .before .pre .2)
 
 zero16-requires : tie.Need-zero16-requires Inv-loop μ-loop
 zero16-requires c κs = let l = c .before in (l .loop .inv .1, omega (arith, l .before .before .pre .2))
-
-add-q : tie.Need-add-q Inv-loop μ-loop
-add-q c = omega arith
-
-loop-less : tie.Need-loop-less Inv-loop μ-loop
-loop-less c = omega arith
 
 loop-again : tie.Need-loop-again Inv-loop μ-loop
 loop-again c =
@@ -62,14 +53,4 @@ returns c =
 pub zeros-spec : {M : Type 1} → statement M
 zeros-spec =
     tie.close
-    (tie.spec
-    Inv-loop
-    μ-loop
-    loop-holds
-    mul-zero16
-    add-zero16
-    zero16-requires
-    add-q
-    loop-less
-    loop-again
-    returns)
+    (tie.spec Inv-loop μ-loop loop-holds (λ c. omega arith) add-zero16 zero16-requires (λ c. omega arith) (λ c. omega arith) loop-again returns)

@@ -29,12 +29,6 @@ mul-window-fits c =
     let n : l .loop .i ≤ 8192 = omega (arith, q .0 .2, c .loop-test .taken) in
     omega (arith, mul-le-mul n (q .0 .3))
 
-mul-wide : tie.Need-mul-wide Inv-loop μ-loop
-mul-wide c = omega arith
-
-shared-slice-read-wide : tie.Need-shared-slice-read-wide Inv-loop μ-loop
-shared-slice-read-wide c = omega arith
-
 wide-requires : tie.Need-wide-requires Inv-loop μ-loop
 wide-requires c κs = tt
 
@@ -51,12 +45,6 @@ returns c =
     let w = c .before .before .wide .ensures in
     no (λ h. c .before .window-fits .ensures .1 (not-true _ (c .if1 .taken)) (rw w (h (l .loop .i) (omega arith))))
 
-add-i : tie.Need-add-i Inv-loop μ-loop
-add-i c = omega arith
-
-loop-less : tie.Need-loop-less Inv-loop μ-loop
-loop-less c = omega arith
-
 loop-again : tie.Need-loop-again Inv-loop μ-loop
 loop-again c =
     let l = c .before .before .before .before .before in
@@ -70,17 +58,5 @@ returns-2 c = yes (λ i h. c .before .loop .inv .1 i (omega arith))
 pub weights-fit-spec : {M : Type 1} → statement M
 weights-fit-spec =
     tie.close
-    (tie.spec
-    Inv-loop
-    μ-loop
-    loop-holds
-    mul-window-fits
-    mul-wide
-    shared-slice-read-wide
-    wide-requires
-    window-fits-requires
-    returns
-    add-i
-    loop-less
-    loop-again
-    returns-2)
+    (tie.spec Inv-loop μ-loop loop-holds mul-window-fits (λ c. omega arith) (λ c. omega arith) wide-requires window-fits-requires returns (λ c. omega arith)
+    (λ c. omega arith) loop-again returns-2)

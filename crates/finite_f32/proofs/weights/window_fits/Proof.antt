@@ -20,26 +20,11 @@ abbrev μ-loop : tie.MeasureT-loop
 loop-holds : tie.Need-loop-holds Inv-loop μ-loop
 loop-holds c = (omega arith, (λ x h. absurd (not-suc-le-zero h)))
 
-add-weight-fits : tie.Need-add-weight-fits Inv-loop μ-loop
-add-weight-fits c = omega arith
-
-mul-weight-fits : tie.Need-mul-weight-fits Inv-loop μ-loop
-mul-weight-fits c = omega arith
-
-shared-slice-read-weight-fits : tie.Need-shared-slice-read-weight-fits Inv-loop μ-loop
-shared-slice-read-weight-fits c = omega arith
-
 weight-fits-requires : tie.Need-weight-fits-requires Inv-loop μ-loop
 weight-fits-requires c κs = tt
 
 returns : tie.Need-returns Inv-loop μ-loop
 returns c = let l = c .before .before .before .before in no (λ h. c .before .weight-fits .ensures .1 (not-true _ (c .if1 .taken)) (h (l .loop .k) (omega arith)))
-
-add-k : tie.Need-add-k Inv-loop μ-loop
-add-k c = omega arith
-
-loop-less : tie.Need-loop-less Inv-loop μ-loop
-loop-less c = omega arith
 
 loop-again : tie.Need-loop-again Inv-loop μ-loop
 loop-again c =
@@ -53,16 +38,5 @@ returns-2 c = yes (λ t h. c .before .loop .inv .1 t (omega arith))
 pub window-fits-spec : {M : Type 1} → statement M
 window-fits-spec =
     tie.close
-    (tie.spec
-    Inv-loop
-    μ-loop
-    loop-holds
-    add-weight-fits
-    mul-weight-fits
-    shared-slice-read-weight-fits
-    weight-fits-requires
-    returns
-    add-k
-    loop-less
-    loop-again
-    returns-2)
+    (tie.spec Inv-loop μ-loop loop-holds (λ c. omega arith) (λ c. omega arith) (λ c. omega arith) weight-fits-requires returns (λ c. omega arith)
+    (λ c. omega arith) loop-again returns-2)

@@ -8,27 +8,6 @@ use Rattle.finite_f32.specs.Scan.{isZero, flag}
 use Rattle.finite_f32.proofs.written.all_four.Statement.{statement}
 use Rattle.finite_f32.proofs.written.all_four.Tie as tie
 
-array-read-zero-step : tie.Need-array-read-zero-step
-array-read-zero-step c = search needs
-
-array-read-zero-step-2 : tie.Need-array-read-zero-step-2
-array-read-zero-step-2 c = search needs
-
-zero-step-requires : tie.Need-zero-step-requires
-zero-step-requires c κs = search needs
-
-array-read-zero-step-3 : tie.Need-array-read-zero-step-3
-array-read-zero-step-3 c = search needs
-
-zero-step-requires-2 : tie.Need-zero-step-requires-2
-zero-step-requires-2 c κs = search needs
-
-array-read-zero-step-4 : tie.Need-array-read-zero-step-4
-array-read-zero-step-4 c = search needs
-
-zero-step-requires-3 : tie.Need-zero-step-requires-3
-zero-step-requires-3 c κs = search needs
-
 is-zero-requires : tie.Need-is-zero-requires
 is-zero-requires c κs =
     let b = c .before .before .before in
@@ -44,13 +23,5 @@ returns c =
 pub all-four-spec : {M : Type 1} → statement M
 all-four-spec =
     tie.close
-    (tie.spec
-    array-read-zero-step
-    array-read-zero-step-2
-    zero-step-requires
-    array-read-zero-step-3
-    zero-step-requires-2
-    array-read-zero-step-4
-    zero-step-requires-3
-    is-zero-requires
-    returns)
+    (tie.spec (λ c. search needs) (λ c. search needs) (λ c κs. search needs) (λ c. search needs) (λ c κs. search needs) (λ c. search needs)
+    (λ c κs. search needs) is-zero-requires returns)

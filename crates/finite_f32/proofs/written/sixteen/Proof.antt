@@ -5,18 +5,6 @@ use Rattle.finite_f32.specs.Scan.{Zeros}
 use Rattle.finite_f32.proofs.written.sixteen.Statement.{statement}
 use Rattle.finite_f32.proofs.written.sixteen.Tie as tie
 
-zero4-requires : tie.Need-zero4-requires
-zero4-requires c κs = search needs
-
-zero4-requires-2 : tie.Need-zero4-requires-2
-zero4-requires-2 c κs = search needs
-
-zero4-requires-3 : tie.Need-zero4-requires-3
-zero4-requires-3 c κs = search needs
-
-zero4-requires-4 : tie.Need-zero4-requires-4
-zero4-requires-4 c κs = search needs
-
 returns : tie.Need-returns
 returns c =
     let s = c .before .before .before .before in
@@ -39,9 +27,4 @@ returns c =
 pub sixteen-spec : {M : Type 1} → statement M
 sixteen-spec =
     tie.close
-    (tie.spec
-    zero4-requires
-    zero4-requires-2
-    zero4-requires-3
-    zero4-requires-4
-    returns)
+    (tie.spec (λ c κs. search needs) (λ c κs. search needs) (λ c κs. search needs) (λ c κs. search needs) returns)

@@ -5,14 +5,8 @@ use Rattle.crop_box.specs.Crop.{numberOf}
 use Rattle.mirror_crop.proofs.crops.mirror_crop.Statement.{statement}
 use Rattle.mirror_crop.proofs.crops.mirror_crop.Tie as tie
 
-crop-requires : tie.Need-crop-requires
-crop-requires c κs = search needs
-
-number-requires : tie.Need-number-requires
-number-requires c κs = search needs
-
 returns : tie.Need-returns
 returns c = c .number .ensures ∙ ap numberOf (c .before .crop .ensures)
 
 pub mirror-crop-spec : {M : Type 1} → statement M
-mirror-crop-spec = tie.close (tie.spec crop-requires number-requires returns)
+mirror-crop-spec = tie.close (tie.spec (λ c κs. search needs) (λ c κs. search needs) returns)

@@ -12,18 +12,6 @@ returns : tie.Need-returns
 unfolding fitNumber fitBox
 returns c = simp (lt-ltb _ _ (c .if1 .taken)) (refl, (refl, (refl, (refl, refl))))
 
-centring-named-requires : tie.Need-centring-named-requires
-centring-named-requires c κs = search needs
-
-fit-src-into-dst-size-requires : tie.Need-fit-src-into-dst-size-requires
-fit-src-into-dst-size-requires c κs = search needs
-
-fitted-box-requires : tie.Need-fitted-box-requires
-fitted-box-requires c κs = search needs
-
-number-requires : tie.Need-number-requires
-number-requires c κs = search needs
-
 returns-2 : tie.Need-returns-2
 unfolding fitNumber fitBox
 returns-2 c =
@@ -35,10 +23,4 @@ returns-2 c =
 pub mirror-fit-spec : {M : Type 1} → statement M
 mirror-fit-spec =
     tie.close
-    (tie.spec
-    returns
-    centring-named-requires
-    fit-src-into-dst-size-requires
-    fitted-box-requires
-    number-requires
-    returns-2)
+    (tie.spec returns (λ c κs. search needs) (λ c κs. search needs) (λ c κs. search needs) (λ c κs. search needs) returns-2)

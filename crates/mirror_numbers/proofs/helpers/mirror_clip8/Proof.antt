@@ -6,11 +6,8 @@ use Rattle.integers.specs.Sums.{clipped}
 use Rattle.mirror_numbers.proofs.helpers.mirror_clip8.Statement.{statement}
 use Rattle.mirror_numbers.proofs.helpers.mirror_clip8.Tie as tie
 
-clip8-requires : tie.Need-clip8-requires
-clip8-requires c κs = search needs
-
 returns : tie.Need-returns
 returns c = c .clip8 .ensures ∙ ap (clipped 255) (toZ-ofZ (c .before .fits .value))
 
 pub mirror-clip8-spec : {M : Type 1} → statement M
-mirror-clip8-spec = tie.close (tie.spec clip8-requires returns)
+mirror-clip8-spec = tie.close (tie.spec (λ c κs. search needs) returns)

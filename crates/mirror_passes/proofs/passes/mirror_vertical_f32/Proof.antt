@@ -5,18 +5,6 @@ use Rattle.vertical.specs.PassedF32.{numberOf, infiniteIn}
 use Rattle.mirror_passes.proofs.passes.mirror_vertical_f32.Statement.{statement}
 use Rattle.mirror_passes.proofs.passes.mirror_vertical_f32.Tie as tie
 
-vert-convolution-f32-requires : tie.Need-vert-convolution-f32-requires
-vert-convolution-f32-requires c κs = search needs
-
-infinite-requires : tie.Need-infinite-requires
-infinite-requires c κs = search needs
-
-number-requires : tie.Need-number-requires
-number-requires c κs = search needs
-
-same-length : tie.Need-same-length
-same-length c = search needs
-
 returns : tie.Need-returns
 returns c =
     let call = c .before .before .before .before .vert-convolution-f32 .ensures in
@@ -25,4 +13,4 @@ returns c =
 pub mirror-vertical-f32-spec : {M : Type 1} → statement M
 mirror-vertical-f32-spec =
     tie.close
-    (tie.spec vert-convolution-f32-requires infinite-requires number-requires same-length returns)
+    (tie.spec (λ c κs. search needs) (λ c κs. search needs) (λ c κs. search needs) (λ c. search needs) returns)

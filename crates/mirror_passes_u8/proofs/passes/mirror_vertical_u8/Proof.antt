@@ -5,18 +5,9 @@ use Rattle.vertical.specs.Passed.{numberOf}
 use Rattle.mirror_passes_u8.proofs.passes.mirror_vertical_u8.Statement.{statement}
 use Rattle.mirror_passes_u8.proofs.passes.mirror_vertical_u8.Tie as tie
 
-vert-convolution-u8-requires : tie.Need-vert-convolution-u8-requires
-vert-convolution-u8-requires c κs = search needs
-
-number-requires : tie.Need-number-requires
-number-requires c κs = search needs
-
-same-length : tie.Need-same-length
-same-length c = search needs
-
 returns : tie.Need-returns
 returns c = let call = c .before .before .before .vert-convolution-u8 .ensures in (c .number .ensures ∙ ap numberOf (call .0), call .1)
 
 pub mirror-vertical-u8-spec : {M : Type 1} → statement M
 mirror-vertical-u8-spec =
-    tie.close (tie.spec vert-convolution-u8-requires number-requires same-length returns)
+    tie.close (tie.spec (λ c κs. search needs) (λ c κs. search needs) (λ c. search needs) returns)

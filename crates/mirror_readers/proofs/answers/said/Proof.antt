@@ -3,11 +3,8 @@ use borrow.Author.Needs.{needs}
 use Rattle.mirror_readers.proofs.answers.said.Statement.{statement}
 use Rattle.mirror_readers.proofs.answers.said.Tie as tie
 
-filter-code-requires : tie.Need-filter-code-requires
-filter-code-requires c κs = search needs
-
 returns : tie.Need-returns
 returns c = rw (c .filter-code .ensures)
 
 pub said-spec : {M : Type 1} → statement M
-said-spec = tie.close (tie.spec filter-code-requires returns)
+said-spec = tie.close (tie.spec (λ c κs. search needs) returns)

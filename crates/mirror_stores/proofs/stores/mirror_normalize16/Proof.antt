@@ -5,21 +5,6 @@ use Rattle.normalizer.specs.Answer.{numberOf, precisionIn}
 use Rattle.mirror_stores.proofs.stores.mirror_normalize16.Statement.{statement}
 use Rattle.mirror_stores.proofs.stores.mirror_normalize16.Tie as tie
 
-normalize16-requires : tie.Need-normalize16-requires
-normalize16-requires c κs = search needs
-
-normalized-precision-requires : tie.Need-normalized-precision-requires
-normalized-precision-requires c κs = search needs
-
-number-requires : tie.Need-number-requires
-number-requires c κs = search needs
-
-same-length : tie.Need-same-length
-same-length c = search needs
-
-same-length-2 : tie.Need-same-length-2
-same-length-2 c = search needs
-
 returns : tie.Need-returns
 returns c =
     let call = c .before .before .before .before .normalize16 .ensures in
@@ -28,10 +13,4 @@ returns c =
 pub mirror-normalize16-spec : {M : Type 1} → statement M
 mirror-normalize16-spec =
     tie.close
-    (tie.spec
-    normalize16-requires
-    normalized-precision-requires
-    number-requires
-    same-length
-    same-length-2
-    returns)
+    (tie.spec (λ c κs. search needs) (λ c κs. search needs) (λ c κs. search needs) (λ c. search needs) (λ c. search needs) returns)

@@ -5,21 +5,6 @@ use Rattle.normalizer.specs.Answer.{numberOf, precisionIn}
 use Rattle.mirror_stores.proofs.stores.mirror_normalize32.Statement.{statement}
 use Rattle.mirror_stores.proofs.stores.mirror_normalize32.Tie as tie
 
-normalize32-requires : tie.Need-normalize32-requires
-normalize32-requires c κs = search needs
-
-normalized-precision-requires : tie.Need-normalized-precision-requires
-normalized-precision-requires c κs = search needs
-
-number-requires : tie.Need-number-requires
-number-requires c κs = search needs
-
-same-length : tie.Need-same-length
-same-length c = search needs
-
-same-length-2 : tie.Need-same-length-2
-same-length-2 c = search needs
-
 returns : tie.Need-returns
 returns c =
     let call = c .before .before .before .before .normalize32 .ensures in
@@ -28,10 +13,4 @@ returns c =
 pub mirror-normalize32-spec : {M : Type 1} → statement M
 mirror-normalize32-spec =
     tie.close
-    (tie.spec
-    normalize32-requires
-    normalized-precision-requires
-    number-requires
-    same-length
-    same-length-2
-    returns)
+    (tie.spec (λ c κs. search needs) (λ c κs. search needs) (λ c κs. search needs) (λ c. search needs) (λ c. search needs) returns)

@@ -37,9 +37,6 @@ lists c = asked-good _ (c .before .set-fits .ensures) (c .if3 .left)
 numbers : (c : tie.Else4) → let a = start (c .before .before .before .before .before) .args in any (length (a .weights .now)) (notFinite (a .weights .now)) ≡ false
 numbers c = sym (c .before .some-not-finite .ensures) ∙ c .if4 .left
 
-sides-fit-requires : tie.Need-sides-fit-requires
-sides-fit-requires c κs = search needs
-
 returns : tie.Need-returns
 returns c = first-row _ _ _ _ (asked-bad _ (c .before .sides-fit .ensures) (c .if1 .taken))
 
@@ -49,25 +46,16 @@ mul-if2 c = record { fits = slots-fit (start c .args .lines) _ _ (sides c) (star
 returns-2 : tie.Need-returns-2
 returns-2 c = second-row _ _ _ _ (sides (c .before)) (c .if2 .taken)
 
-set-fits-requires : tie.Need-set-fits-requires
-set-fits-requires c κs = search needs
-
 returns-3 : tie.Need-returns-3
 returns-3 c =
     let two = c .before .before in
     third-row _ _ _ _ (sides (two .before)) (room two) (asked-bad _ (c .before .set-fits .ensures) (c .if3 .taken))
-
-some-not-finite-requires : tie.Need-some-not-finite-requires
-some-not-finite-requires c κs = search needs
 
 returns-4 : tie.Need-returns-4
 returns-4 c =
     let three = c .before .before in
     let two = three .before .before in
     weight-row _ _ _ _ (sides (two .before)) (room two) (lists three) (sym (c .before .some-not-finite .ensures) ∙ c .if4 .taken)
-
-precision-requires : tie.Need-precision-requires
-precision-requires c κs = search needs
 
 unstorable-requires : tie.Need-unstorable-requires
 unstorable-requires c κs =
@@ -95,16 +83,5 @@ returns-6 c =
 pub judge-spec : {M : Type 1} → statement M
 judge-spec =
     tie.close
-    (tie.spec
-    sides-fit-requires
-    returns
-    mul-if2
-    returns-2
-    set-fits-requires
-    returns-3
-    some-not-finite-requires
-    returns-4
-    precision-requires
-    unstorable-requires
-    returns-5
-    returns-6)
+    (tie.spec (λ c κs. search needs) returns mul-if2 returns-2 (λ c κs. search needs) returns-3 (λ c κs. search needs) returns-4 (λ c κs. search needs)
+    unstorable-requires returns-5 returns-6)

@@ -8,11 +8,5 @@ use Rattle.numbers.proofs.bits.floor_bits.Tie as tie
 returns : tie.Need-returns
 returns c = whole-nan downward (c .before .args .b) (c .if1 .taken)
 
-floor-pattern-requires : tie.Need-floor-pattern-requires
-floor-pattern-requires c κs = search needs
-
-returns-2 : tie.Need-returns-2
-returns-2 c = search needs
-
 pub floor-bits-spec : {M : Type 1} → statement M
-floor-bits-spec = tie.close (tie.spec returns floor-pattern-requires returns-2)
+floor-bits-spec = tie.close (tie.spec returns (λ c κs. search needs) (λ c. search needs))

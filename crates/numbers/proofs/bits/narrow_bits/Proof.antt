@@ -14,9 +14,6 @@ use Rattle.numbers.proofs.bits.narrow_bits.Tie as tie
 returns : tie.Need-returns
 returns c = narrowed-nan (c .before .args .b) (c .if1 .taken)
 
-narrow-size-requires : tie.Need-narrow-size-requires
-narrow-size-requires c κs = search needs
-
 cast-y : tie.Need-cast-y
 cast-y c = omega (arith, narrowSize-le (c .before .before .args .b % 2 ^ 63) (c .narrow-size .result) (c .narrow-size .ensures))
 
@@ -36,4 +33,4 @@ returns-3 c =
     narrowed-code true b (n .result) (n .result + 2 ^ 31) (narrowSize-le (b % 2 ^ 63) (n .result) (n .ensures)) (add-comm (n .result) (2 ^ 31)) (narrow-minus b (n .result) (c .before .before .before .fits .b .fits) (omega arith) (n .ensures) (omega arith))
 
 pub narrow-bits-spec : {M : Type 1} → statement M
-narrow-bits-spec = tie.close (tie.spec returns narrow-size-requires cast-y returns-2 add-t7 returns-3)
+narrow-bits-spec = tie.close (tie.spec returns (λ c κs. search needs) cast-y returns-2 add-t7 returns-3)

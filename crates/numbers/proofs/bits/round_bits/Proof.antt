@@ -8,11 +8,5 @@ use Rattle.numbers.proofs.bits.round_bits.Tie as tie
 returns : tie.Need-returns
 returns c = whole-nan away (c .before .args .b) (c .if1 .taken)
 
-round-pattern-requires : tie.Need-round-pattern-requires
-round-pattern-requires c κs = search needs
-
-returns-2 : tie.Need-returns-2
-returns-2 c = search needs
-
 pub round-bits-spec : {M : Type 1} → statement M
-round-bits-spec = tie.close (tie.spec returns round-pattern-requires returns-2)
+round-bits-spec = tie.close (tie.spec returns (λ c κs. search needs) (λ c. search needs))

@@ -35,8 +35,5 @@ float-to-float-result c =
 float-to-bits-result : tie.Need-float-to-bits-result
 float-to-bits-result c = number (c .before .before .args .b) (omega arith)
 
-returns-2 : tie.Need-returns-2
-returns-2 c = search needs
-
 pub widen-bits-spec : {M : Type 1} → statement M
-widen-bits-spec = tie.close (tie.spec returns float-from-bits-result float-to-float-result float-to-bits-result returns-2)
+widen-bits-spec = tie.close (tie.spec returns float-from-bits-result float-to-float-result float-to-bits-result (λ c. search needs))

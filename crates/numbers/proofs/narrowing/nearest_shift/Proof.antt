@@ -6,9 +6,6 @@ use Rattle.numbers.proofs.Codes.{shift-unit, shift-pos, rest-le, shift-
 use Rattle.numbers.proofs.narrowing.nearest_shift.Statement.{statement}
 use Rattle.numbers.proofs.narrowing.nearest_shift.Tie as tie
 
-shl-unit : tie.Need-shl-unit
-shl-unit c = search needs
-
 div-q : tie.Need-div-q
 div-q c = shift-pos (c .args .sh) (c .pre .1)
 
@@ -37,4 +34,4 @@ returns-3 : tie.Need-returns-3
 returns-3 c = let b = c .before .before in shift-tie (b .args .w) (2 ^ b .args .sh) (1 * 2 ^ b .args .sh % 2 ^ 64) (shift-unit (b .args .sh) (b .pre .1)) (shift-pos (b .args .sh) (b .pre .1)) (omega arith) (omega arith)
 
 pub nearest-shift-spec : {M : Type 1} → statement M
-nearest-shift-spec = tie.close (tie.spec shl-unit div-q rem-r sub-if1 returns sub-if2 add-result returns-2 add-result-2 returns-3)
+nearest-shift-spec = tie.close (tie.spec (λ c. search needs) div-q rem-r sub-if1 returns sub-if2 add-result returns-2 add-result-2 returns-3)

@@ -11,17 +11,11 @@ use Rattle.numbers.proofs.WholeCodes.{whole-plus, whole-minus}
 use Rattle.numbers.proofs.whole.ceil_pattern.Statement.{statement}
 use Rattle.numbers.proofs.whole.ceil_pattern.Tie as tie
 
-raised-size-requires : tie.Need-raised-size-requires
-raised-size-requires c κs = search needs
-
 returns : tie.Need-returns
 unfolding raisedSize
 returns c =
     let s = c .before .before in
     whole-plus upward raised raisedBelow raisedMore raising (λ a c. refl) (s .args .b) (c .raised-size .result) (s .pre) (c .raised-size .ensures) (c .before .if1 .taken)
-
-cut-size-requires : tie.Need-cut-size-requires
-cut-size-requires c κs = search needs
 
 bounded : (p y : ℕ) → p ≤ 0x7ff0_0000_0000_0000 → y ≡ cutSize p → y ≤ 0x7ff0_0000_0000_0000
 unfolding cutSize
@@ -37,4 +31,4 @@ returns-2 c =
     whole-minus upward cut cutBelow cutMore cutting (λ a c. refl) (s .args .b) (c .cut-size .result) (s .fits .b .fits) (s .pre) (c .cut-size .ensures) (c .before .if1 .left)
 
 pub ceil-pattern-spec : {M : Type 1} → statement M
-ceil-pattern-spec = tie.close (tie.spec raised-size-requires returns cut-size-requires add-result returns-2)
+ceil-pattern-spec = tie.close (tie.spec (λ c κs. search needs) returns (λ c κs. search needs) add-result returns-2)

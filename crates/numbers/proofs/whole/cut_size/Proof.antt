@@ -13,9 +13,6 @@ returns : tie.Need-returns
 unfolding cutSize
 returns c = size-whole cutBelow cutMore (c .before .args .p) (c .if1 .taken)
 
-unit-of-requires : tie.Need-unit-of-requires
-unit-of-requires c κs = search needs
-
 div-result : tie.Need-div-result
 div-result c = unit-pos (c .before .before .before .args .p) (c .unit-of .result) (c .unit-of .ensures)
 
@@ -35,4 +32,4 @@ returns-3 c = size-under cutBelow cutMore (c .before .before .args .p) (c .if2 .
 pub cut-size-spec : {M : Type 1} → statement M
 cut-size-spec =
     tie.close
-    (tie.spec returns unit-of-requires div-result mul-result returns-2 returns-3)
+    (tie.spec returns (λ c κs. search needs) div-result mul-result returns-2 returns-3)

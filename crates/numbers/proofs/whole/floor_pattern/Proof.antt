@@ -11,17 +11,11 @@ use Rattle.numbers.proofs.WholeCodes.{whole-plus, whole-minus}
 use Rattle.numbers.proofs.whole.floor_pattern.Statement.{statement}
 use Rattle.numbers.proofs.whole.floor_pattern.Tie as tie
 
-cut-size-requires : tie.Need-cut-size-requires
-cut-size-requires c κs = search needs
-
 returns : tie.Need-returns
 unfolding cutSize
 returns c =
     let s = c .before .before in
     whole-plus downward cut cutBelow cutMore cutting (λ a c. refl) (s .args .b) (c .cut-size .result) (s .pre) (c .cut-size .ensures) (c .before .if1 .taken)
-
-raised-size-requires : tie.Need-raised-size-requires
-raised-size-requires c κs = search needs
 
 bounded : (p y : ℕ) → p ≤ 0x7ff0_0000_0000_0000 → y ≡ raisedSize p → y ≤ 0x7ff0_0000_0000_0000
 unfolding raisedSize
@@ -37,4 +31,4 @@ returns-2 c =
     whole-minus downward raised raisedBelow raisedMore raising (λ a c. refl) (s .args .b) (c .raised-size .result) (s .fits .b .fits) (s .pre) (c .raised-size .ensures) (c .before .if1 .left)
 
 pub floor-pattern-spec : {M : Type 1} → statement M
-floor-pattern-spec = tie.close (tie.spec cut-size-requires returns raised-size-requires add-result returns-2)
+floor-pattern-spec = tie.close (tie.spec (λ c κs. search needs) returns (λ c κs. search needs) add-result returns-2)

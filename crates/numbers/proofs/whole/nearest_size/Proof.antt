@@ -12,9 +12,6 @@ returns : tie.Need-returns
 unfolding nearestSize
 returns c = size-whole nearestBelow nearestMore (c .before .args .p) (c .if1 .taken)
 
-unit-of-requires : tie.Need-unit-of-requires
-unit-of-requires c κs = search needs
-
 add-result : tie.Need-add-result
 add-result c = omega (arith, unit-most (c .before .before .before .args .p) (c .unit-of .result) (c .before .if2 .taken) (c .unit-of .ensures))
 
@@ -43,4 +40,4 @@ returns-4 c = let s = c .before .before .before in high-nearest (s .args .p) (c 
 pub nearest-size-spec : {M : Type 1} → statement M
 nearest-size-spec =
     tie.close
-    (tie.spec returns unit-of-requires add-result div-result mul-result returns-2 returns-3 returns-4)
+    (tie.spec returns (λ c κs. search needs) add-result div-result mul-result returns-2 returns-3 returns-4)

@@ -12,9 +12,6 @@ returns : tie.Need-returns
 unfolding raisedSize
 returns c = size-whole raisedBelow raisedMore (c .before .args .p) (c .if1 .taken)
 
-unit-of-requires : tie.Need-unit-of-requires
-unit-of-requires c κs = search needs
-
 sub-result : tie.Need-sub-result
 sub-result c = omega (arith, unit-pos (c .before .before .before .args .p) (c .unit-of .result) (c .unit-of .ensures))
 
@@ -46,4 +43,4 @@ returns-4 c = let s = c .before .before .before in some-raised (s .args .p) (c .
 pub raised-size-spec : {M : Type 1} → statement M
 raised-size-spec =
     tie.close
-    (tie.spec returns unit-of-requires sub-result add-result div-result mul-result returns-2 returns-3 returns-4)
+    (tie.spec returns (λ c κs. search needs) sub-result add-result div-result mul-result returns-2 returns-3 returns-4)

@@ -12,9 +12,6 @@ use Rattle.numbers.proofs.WholeCodes.{whole-plus, whole-minus}
 use Rattle.numbers.proofs.whole.round_pattern.Statement.{statement}
 use Rattle.numbers.proofs.whole.round_pattern.Tie as tie
 
-nearest-size-requires : tie.Need-nearest-size-requires
-nearest-size-requires c κs = search needs
-
 returns : tie.Need-returns
 unfolding nearestSize
 returns c =
@@ -35,4 +32,4 @@ returns-2 c =
     whole-minus away nearest nearestBelow nearestMore nearing (λ a c. refl) (s .args .b) (c .before .nearest-size .result) (s .fits .b .fits) (s .pre) (c .before .nearest-size .ensures) (c .if1 .left)
 
 pub round-pattern-spec : {M : Type 1} → statement M
-round-pattern-spec = tie.close (tie.spec nearest-size-requires returns add-result returns-2)
+round-pattern-spec = tie.close (tie.spec (λ c κs. search needs) returns add-result returns-2)

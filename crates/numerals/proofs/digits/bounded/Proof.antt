@@ -37,15 +37,6 @@ loop-holds : tie.Need-loop-holds Inv-loop μ-loop
 unfolding numeral
 loop-holds c = (omega arith, refl, omega arith)
 
-byte-at-requires : tie.Need-byte-at-requires Inv-loop μ-loop
-byte-at-requires c κs = search needs
-
-figure-requires : tie.Need-figure-requires Inv-loop μ-loop
-figure-requires c κs = search needs
-
-passes-requires : tie.Need-passes-requires Inv-loop μ-loop
-passes-requires c κs = search needs
-
 returns : tie.Need-returns Inv-loop μ-loop
 returns c =
     let start = c .before .before .before .before .before .before .before in
@@ -62,12 +53,6 @@ mul-sum c = record { fits = omega (arith, within c) }
 add-sum : tie.Need-add-sum Inv-loop μ-loop
 add-sum c = record { fits = omega (arith, within c) }
 
-add-k : tie.Need-add-k Inv-loop μ-loop
-add-k c = search needs
-
-loop-less : tie.Need-loop-less Inv-loop μ-loop
-loop-less c = search needs
-
 loop-again : tie.Need-loop-again Inv-loop μ-loop
 loop-again c = (search needs, next (c .before .before), within c)
 
@@ -80,17 +65,5 @@ returns-2 c =
 pub bounded-spec : {M : Type 1} → statement M
 bounded-spec =
     tie.close
-    (tie.spec
-    Inv-loop
-    μ-loop
-    loop-holds
-    byte-at-requires
-    figure-requires
-    passes-requires
-    returns
-    mul-sum
-    add-sum
-    add-k
-    loop-less
-    loop-again
-    returns-2)
+    (tie.spec Inv-loop μ-loop loop-holds (λ c κs. search needs) (λ c κs. search needs) (λ c κs. search needs) returns mul-sum add-sum (λ c. search needs)
+    (λ c. search needs) loop-again returns-2)

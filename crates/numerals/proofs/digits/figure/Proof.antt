@@ -5,12 +5,6 @@ use borrow.Author.Needs.{needs}
 use Rattle.numerals.proofs.digits.figure.Statement.{statement}
 use Rattle.numerals.proofs.digits.figure.Tie as tie
 
-digit-requires : tie.Need-digit-requires
-digit-requires c κs = search needs
-
-cast-d : tie.Need-cast-d
-cast-d c = search needs
-
 returns : tie.Need-returns
 unfolding figure
 returns c = rw (← c .before .digit .ensures, lt-ltb _ _ (c .if1 .taken))
@@ -20,4 +14,4 @@ unfolding figure
 returns-2 c = rw (← c .before .digit .ensures, le-ltb _ _ (c .if1 .left))
 
 pub figure-spec : {M : Type 1} → statement M
-figure-spec = tie.close (tie.spec digit-requires cast-d returns returns-2)
+figure-spec = tie.close (tie.spec (λ c κs. search needs) (λ c. search needs) returns returns-2)

@@ -26,11 +26,8 @@ returns c =
     let a = c .before .args in
     sym (lt-ltb (a .most) (a .v * a .base + a .d) (omega (arith, c .if1 .taken)))
 
-div-result : tie.Need-div-result
-div-result c = search needs
-
 returns-2 : tie.Need-returns-2
 returns-2 c = let a = c .before .args in above (a .v) (a .base) (a .d) (a .most) (c .before .pre) (search needs)
 
 pub passes-spec : {M : Type 1} → statement M
-passes-spec = tie.close (tie.spec returns div-result returns-2)
+passes-spec = tie.close (tie.spec returns (λ c. search needs) returns-2)

@@ -20,9 +20,6 @@ returns : tie.Need-returns
 unfolding numberOf
 returns c = rw (eq-eqb _ 0 (c .if1 .taken))
 
-all-digits-requires : tie.Need-all-digits-requires
-all-digits-requires c κs = search needs
-
 returns-2 : tie.Need-returns-2
 unfolding numberOf
 returns-2 c = rw (ne-eqb _ 0 (c .before .before .if1 .left), ← c .before .all-digits .ensures, not-true (c .before .all-digits .result) (c .if2 .taken))
@@ -33,9 +30,6 @@ returns-3 c =
     let a = c .before .before .before .before .before .args in
     rw (ne-eqb _ 0 (c .before .before .before .if1 .left), none (a .base) (a .text .now) (a .a) (a .n) (c .if3 .taken) (search needs))
 
-bounded-requires : tie.Need-bounded-requires
-bounded-requires c κs = search needs
-
 returns-4 : tie.Need-returns-4
 unfolding numberOf
 returns-4 c =
@@ -43,4 +37,4 @@ returns-4 c =
 
 pub read-number-spec : {M : Type 1} → statement M
 read-number-spec =
-    tie.close (tie.spec returns all-digits-requires returns-2 returns-3 bounded-requires returns-4)
+    tie.close (tie.spec returns (λ c κs. search needs) returns-2 returns-3 (λ c κs. search needs) returns-4)

@@ -4,12 +4,6 @@ use Rattle.plans.proofs.planning.along.Statement.{statement}
 use Rattle.plans.proofs.planning.along.Tie as tie
 use Rattle.plans.specs.Plan.{edgeOf}
 
-enum-told : tie.Need-enum-told
-enum-told c = search needs
-
-enum-told-2 : tie.Need-enum-told-2
-enum-told-2 c = search needs
-
 returns : tie.Need-returns
 unfolding edgeOf
 returns c = rw (c .before .enum-told .given .1)
@@ -19,4 +13,4 @@ unfolding edgeOf
 returns-2 c = rw (c .before .enum-told2 .given .1)
 
 pub along-spec : {M : Type 1} → statement M
-along-spec = tie.close (tie.spec enum-told enum-told-2 returns returns-2)
+along-spec = tie.close (tie.spec (λ c. search needs) (λ c. search needs) returns returns-2)

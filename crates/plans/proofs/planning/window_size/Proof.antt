@@ -15,9 +15,6 @@ use Rattle.plans.proofs.PlanLaws.{ceil-small}
 sizes : (z y : ℕ) → z ≡ y → z * 2 + 1 ≡ 2 * y + 1
 sizes z y e = omega arith
 
-ceil-requires : tie.Need-ceil-requires
-ceil-requires c κs = search needs
-
 float-to-int-result : tie.Need-float-to-int-result
 float-to-int-result c =
     subst (λ (z : Float). T (inUnsigned binary64 32 z)) (sym (c .before .ceil .ensures)) (ceil-in (c .before .before .args .radius) (2 ^ 14) (lit< tt) (c .before .before .pre))
@@ -39,4 +36,4 @@ returns c =
 
 pub window-size-spec : {M : Type 1} → statement M
 window-size-spec =
-    tie.close (tie.spec ceil-requires float-to-int-result mul-result add-result returns)
+    tie.close (tie.spec (λ c κs. search needs) float-to-int-result mul-result add-result returns)

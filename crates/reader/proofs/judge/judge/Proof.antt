@@ -15,26 +15,11 @@ use borrow.Author.Needs.{needs}
 use Rattle.reader.proofs.judge.judge.Statement.{statement}
 use Rattle.reader.proofs.judge.judge.Tie as tie
 
-scan-sizes-requires : tie.Need-scan-sizes-requires
-scan-sizes-requires c κs = search needs
-
-enum-known-first : tie.Need-enum-known-first
-enum-known-first c = search needs
-
-enum-told : tie.Need-enum-told
-enum-told c = search needs
-
-sizes-stop-requires : tie.Need-sizes-stop-requires
-sizes-stop-requires c κs = search needs
-
 returns : tie.Need-returns
 returns c =
     let e = c .before .enum-told .given .1 in
     let s = rw e at (c .before .before .before .scan-sizes .ensures) in
     rw (c .sizes-stop .ensures ∙ ap sizesPlace e) (judged-no-sizes _ _ _ _ s)
-
-too-few-requires : tie.Need-too-few-requires
-too-few-requires c κs = search needs
 
 returns-2 : tie.Need-returns-2
 returns-2 c =
@@ -46,24 +31,12 @@ scan-rest-requires c κs =
     let f = rw (c .before .before .before .first .given .1) at (c .before .before .before .before .before .scan-sizes .ensures) in
     (f .good, found-within _ zero-le f)
 
-enum-known-rest : tie.Need-enum-known-rest
-enum-known-rest c = search needs
-
-enum-told-2 : tie.Need-enum-told-2
-enum-told-2 c = search needs
-
-rest-stop-requires : tie.Need-rest-stop-requires
-rest-stop-requires c κs = search needs
-
 returns-3 : tie.Need-returns-3
 returns-3 c =
     let e = c .before .enum-told2 .given .1 in
     let f = rw (c .before .before .before .before .before .before .before .first .given .1) at (c .before .before .before .before .before .before .before .before .before .scan-sizes .ensures) in
     let s = rw e at (c .before .before .before .scan-rest .ensures) in
     rw (c .rest-stop .ensures ∙ ap restPlace e) (judged-no-rest _ _ _ f (sym (c .before .before .before .before .before .too-few .ensures) ∙ c .before .before .before .before .if1 .left) _ s)
-
-limit-of-requires : tie.Need-limit-of-requires
-limit-of-requires c κs = search needs
 
 scan-excesses-requires : tie.Need-scan-excesses-requires
 scan-excesses-requires c κs =
@@ -75,15 +48,6 @@ scan-excesses-requires c κs =
       (f .good .0 .0, f .good .0 .1, f .good .1 .0, f .good .2 .0, rw m (limit-least bits), rw m (limit-31 bits), le-trans (g .0 .good .1 .1) (most-most bits)),
       ((stored, found-within _ stored (g .1 .1)), (g .1 .0, c .before .before .rest .given .0 .1 .1 .0, rw m (g .1 .1))),
     )
-
-enum-known-line : tie.Need-enum-known-line
-enum-known-line c = search needs
-
-enum-told-3 : tie.Need-enum-told-3
-enum-told-3 c = search needs
-
-place-stop-requires : tie.Need-place-stop-requires
-place-stop-requires c κs = search needs
 
 returns-4 : tie.Need-returns-4
 returns-4 c =
@@ -114,24 +78,6 @@ returns-6 c =
 pub judge-spec : {M : Type 1} → statement M
 judge-spec =
     tie.close
-    (tie.spec
-    scan-sizes-requires
-    enum-known-first
-    enum-told
-    sizes-stop-requires
-    returns
-    too-few-requires
-    returns-2
-    scan-rest-requires
-    enum-known-rest
-    enum-told-2
-    rest-stop-requires
-    returns-3
-    limit-of-requires
-    scan-excesses-requires
-    enum-known-line
-    enum-told-3
-    place-stop-requires
-    returns-4
-    returns-5
-    returns-6)
+    (tie.spec (λ c κs. search needs) (λ c. search needs) (λ c. search needs) (λ c κs. search needs) returns (λ c κs. search needs) returns-2
+    scan-rest-requires (λ c. search needs) (λ c. search needs) (λ c κs. search needs) returns-3 (λ c κs. search needs) scan-excesses-requires
+    (λ c. search needs) (λ c. search needs) (λ c κs. search needs) returns-4 returns-5 returns-6)

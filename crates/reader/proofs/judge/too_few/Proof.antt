@@ -6,12 +6,6 @@ use Prim.Native.Nat.{_*_, _^_, _≤_, _<_}
 use native.Mathlib.Nat.{mul-le-mul}
 use native.Mathlib.Omega.{arith}
 
-cast-windows : tie.Need-cast-windows
-cast-windows c = search needs
-
-cast-window-size : tie.Need-cast-window-size
-cast-window-size c = search needs
-
 mul-result : tie.Need-mul-result
 mul-result c =
     let v = c .before .before .args .v in
@@ -22,8 +16,5 @@ mul-result c =
     let all : v .windows * v .«window_size» ≤ 4294967295 * 4294967295 = mul-le-mul l m in
     record { fits = omega arith }
 
-returns : tie.Need-returns
-returns c = search needs
-
 pub too-few-spec : {M : Type 1} → statement M
-too-few-spec = tie.close (tie.spec cast-windows cast-window-size mul-result returns)
+too-few-spec = tie.close (tie.spec (λ c. search needs) (λ c. search needs) mul-result (λ c. search needs))

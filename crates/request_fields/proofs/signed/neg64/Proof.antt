@@ -7,17 +7,8 @@ use native.Mathlib.Omega.{arith}
 use mir.Syntax.{w64}
 use mir.Facts.{toZ-pos}
 
-returns : tie.Need-returns
-returns c = search needs
-
-cast-y : tie.Need-cast-y
-cast-y c = search needs
-
 sub-result : tie.Need-sub-result
 sub-result c = rw (toZ-pos w64 {n = c .before .args .x} (omega arith)) (below64 (c .before .args .x) (c .if1 .left))
 
-returns-2 : tie.Need-returns-2
-returns-2 c = search needs
-
 pub neg64-spec : {M : Type 1} → statement M
-neg64-spec = tie.close (tie.spec returns cast-y sub-result returns-2)
+neg64-spec = tie.close (tie.spec (λ c. search needs) (λ c. search needs) sub-result (λ c. search needs))

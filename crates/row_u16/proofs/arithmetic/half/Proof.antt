@@ -9,15 +9,6 @@ use borrow.Author.Needs.{needs}
 use Rattle.row_u16.proofs.arithmetic.half.Statement.{statement}
 use Rattle.row_u16.proofs.arithmetic.half.Tie as tie
 
-sub-result : tie.Need-sub-result
-sub-result c = search needs
-
-cast-result : tie.Need-cast-result
-cast-result c = search needs
-
-shl-result : tie.Need-shl-result
-shl-result c = search needs
-
 returns : tie.Need-returns
 returns c =
     let n : ℕ = 2 ^ (c .args .p - 1) in
@@ -26,4 +17,4 @@ returns c =
     rw e (toZ-pos w64 n (omega arith))
 
 pub half-spec : {M : Type 1} → statement M
-half-spec = tie.close (tie.spec sub-result cast-result shl-result returns)
+half-spec = tie.close (tie.spec (λ c. search needs) (λ c. search needs) (λ c. search needs) returns)

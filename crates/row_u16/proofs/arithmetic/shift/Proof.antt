@@ -5,14 +5,8 @@ use Rattle.vertical.proofs.ReadBack.{back-shift}
 use Rattle.row_u16.proofs.arithmetic.shift.Statement.{statement}
 use Rattle.row_u16.proofs.arithmetic.shift.Tie as tie
 
-cast-result : tie.Need-cast-result
-cast-result c = search needs
-
-shr-result : tie.Need-shr-result
-shr-result c = search needs
-
 returns : tie.Need-returns
 returns c = back-shift w64 _ _ (c .fits .v)
 
 pub shift-spec : {M : Type 1} → statement M
-shift-spec = tie.close (tie.spec cast-result shr-result returns)
+shift-spec = tie.close (tie.spec (λ c. search needs) (λ c. search needs) returns)

@@ -7,12 +7,6 @@ use Rattle.row_u16.proofs.Sizes.{product-fits, step-fits, step-is}
 use Rattle.row_u16.proofs.arithmetic.step.Statement.{statement}
 use Rattle.row_u16.proofs.arithmetic.step.Tie as tie
 
-wide32-requires : tie.Need-wide32-requires
-wide32-requires c κs = search needs
-
-wide16-requires : tie.Need-wide16-requires
-wide16-requires c κs = search needs
-
 mul-result : tie.Need-mul-result
 mul-result c =
     product-fits
@@ -44,4 +38,4 @@ returns c =
     (c .before .before .fits .s .fits)
 
 pub step-spec : {M : Type 1} → statement M
-step-spec = tie.close (tie.spec wide32-requires wide16-requires mul-result add-result returns)
+step-spec = tie.close (tie.spec (λ c κs. search needs) (λ c κs. search needs) mul-result add-result returns)

@@ -6,11 +6,8 @@ use borrow.Author.Needs.{needs}
 use Rattle.row_u16.proofs.arithmetic.wide16.Statement.{statement}
 use Rattle.row_u16.proofs.arithmetic.wide16.Tie as tie
 
-cast-result : tie.Need-cast-result
-cast-result c = search needs
-
 returns : tie.Need-returns
 returns c = toZ-pos w64 (c .args .s) (omega arith)
 
 pub wide16-spec : {M : Type 1} → statement M
-wide16-spec = tie.close (tie.spec cast-result returns)
+wide16-spec = tie.close (tie.spec (λ c. search needs) returns)

@@ -13,15 +13,6 @@ add-lines-requires c κs =
     let q = b .pre in
     (q .1 .0, (q .1 .1 .0, ((λ k l. omega (arith, q .1 .1 .1 .1 .0, q .1 .1 .1 .0 k l)), λ t l. half-size (b .args .p) (q .0 .1) (q .1 .1 .1 .1 .1 t l))))
 
-put-columns-requires : tie.Need-put-columns-requires
-put-columns-requires c κs = search needs
-
-same-length : tie.Need-same-length
-same-length c = search needs
-
-same-length-2 : tie.Need-same-length-2
-same-length-2 c = search needs
-
 returns : tie.Need-returns
 returns c =
     let b = c .before .before .before .before .before .before .before .before .before .before in
@@ -30,4 +21,4 @@ returns c =
 
 pub chunk-spec : {M : Type 1} → statement M
 chunk-spec =
-    tie.close (tie.spec add-lines-requires put-columns-requires same-length same-length-2 returns)
+    tie.close (tie.spec add-lines-requires (λ c κs. search needs) (λ c. search needs) (λ c. search needs) returns)

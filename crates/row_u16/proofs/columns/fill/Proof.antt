@@ -10,9 +10,6 @@ use Rattle.vertical.specs.Column.{rowValue}
 use Rattle.row_u16.proofs.columns.fill.Statement.{statement}
 use Rattle.row_u16.proofs.columns.fill.Tie as tie
 
-sixteens-requires : tie.Need-sixteens-requires
-sixteens-requires c κs = search needs
-
 fours-requires : tie.Need-fours-requires
 fours-requires c κs =
     let s = c .before .before .before .sixteens in
@@ -33,9 +30,6 @@ tail-requires c κs =
     let long : length (f .last .1 .1 .1 .1 .1 .0) ≡ length (a .out .now) = f .kept .1 .1 .1 .1 .1 .0 ∙ before in
     (q .0, (q .1 .0, (q .1 .1 .0, ((λ k l. omega (arith, q .1 .1 .1 .0 k l)), (omega (arith, q .1 .1 .1 .1), (omega (arith, f .ensures .0), done-again (rowValue 65535 (a .p) (a .ws .now) (a .src .now) (a .at0) (a .row) (length (a .ws .now))) (s .last .1 .1 .1 .1 .1 .0) (f .result) (f .ensures .1)))))))
 
-same-length : tie.Need-same-length
-same-length c = search needs
-
 returns : tie.Need-returns
 returns c =
     let f = c .before .before .before .before .before .before .fours in
@@ -44,4 +38,4 @@ returns c =
     c .before .before .tail .ensures ∙ ap (λ (n : ℕ). tab 0 n (rowValue 65535 (a .p) (a .ws .now) (a .src .now) (a .at0) (a .row) (length (a .ws .now)))) (f .kept .1 .1 .1 .1 .1 .0 ∙ s .kept .1 .1 .1 .1 .1 .0)
 
 pub fill-spec : {M : Type 1} → statement M
-fill-spec = tie.close (tie.spec sixteens-requires fours-requires tail-requires same-length returns)
+fill-spec = tie.close (tie.spec (λ c κs. search needs) fours-requires tail-requires (λ c. search needs) returns)

@@ -27,30 +27,6 @@ half-requires c κs = c .before .before .pre .0
 loop-holds : tie.Need-loop-holds Inv-loop μ-loop
 loop-holds c = (omega arith, written-none)
 
-sub-loop : tie.Need-sub-loop Inv-loop μ-loop
-sub-loop c = search needs
-
-add-e : tie.Need-add-e Inv-loop μ-loop
-add-e c = search needs
-
-add-chunk : tie.Need-add-chunk Inv-loop μ-loop
-add-chunk c = search needs
-
-slice-aggregate-chunk : tie.Need-slice-aggregate-chunk Inv-loop μ-loop
-slice-aggregate-chunk c = search needs
-
-mul-chunk : tie.Need-mul-chunk Inv-loop μ-loop
-mul-chunk c = search needs
-
-sub-chunk : tie.Need-sub-chunk Inv-loop μ-loop
-sub-chunk c = search needs
-
-part-chunk-start : tie.Need-part-chunk-start Inv-loop μ-loop
-part-chunk-start c = search needs
-
-part-chunk-end : tie.Need-part-chunk-end Inv-loop μ-loop
-part-chunk-end c = search needs
-
 chunk-requires : tie.Need-chunk-requires Inv-loop μ-loop
 chunk-requires c κs =
     let l = c .before .before .before in
@@ -58,9 +34,6 @@ chunk-requires c κs =
     let q = l .before .before .before .before .pre in
     let size : length (take (l .loop .j + 16 - l .loop .j) (drop (l .loop .j) (l .loop .out))) ≡ 16 = part-size (l .loop .out) (l .loop .j) 16 (omega (arith, l .loop .inv .1 .long)) in
     (q .0, (q .1 .0, (q .1 .1 .0, ((λ k s. omega (arith, l .loop .inv .1 .long, size, q .1 .1 .1 .0 k s)), (sym size, λ t s. getD-replicate 16 t (toZ w64 (ofZ w64 (h .result))) (pos 0) s ∙ back (h .ok) ∙ h .ensures)))))
-
-loop-less : tie.Need-loop-less Inv-loop μ-loop
-loop-less c = search needs
 
 loop-again : tie.Need-loop-again Inv-loop μ-loop
 loop-again c =
@@ -72,30 +45,11 @@ loop-again c =
           (part-is (a .p) (a .ws .now) (a .src .now) (a .at0) (a .row) (l .loop .j) 16 (length (take (l .loop .j + 16 - l .loop .j) (drop (l .loop .j) (l .loop .out)))) (part-size (l .loop .out) (l .loop .j) 16 (omega (arith, l .loop .inv .1 .long))) (c .before .before .before .chunk .ensures)),
     )
 
-same-length : tie.Need-same-length Inv-loop μ-loop
-same-length c = search needs
-
 returns : tie.Need-returns Inv-loop μ-loop
 returns c = (c .before .loop .inv .0, c .before .loop .inv .1 .is)
 
 pub long-chunks-spec : {M : Type 1} → statement M
 long-chunks-spec =
     tie.close
-    (tie.spec
-    Inv-loop
-    μ-loop
-    half-requires
-    loop-holds
-    sub-loop
-    add-e
-    add-chunk
-    slice-aggregate-chunk
-    mul-chunk
-    sub-chunk
-    part-chunk-start
-    part-chunk-end
-    chunk-requires
-    loop-less
-    loop-again
-    same-length
-    returns)
+    (tie.spec Inv-loop μ-loop half-requires loop-holds (λ c. search needs) (λ c. search needs) (λ c. search needs) (λ c. search needs) (λ c. search needs)
+    (λ c. search needs) (λ c. search needs) (λ c. search needs) chunk-requires (λ c. search needs) loop-again (λ c. search needs) returns)

@@ -27,31 +27,10 @@ scaled-requires-2 c κs = (lit≤ tt, c .before .before .before .pre .0 .1)
 loop-holds : tie.Need-loop-holds Inv-loop μ-loop
 loop-holds c = (omega arith, written-none)
 
-sub-loop : tie.Need-sub-loop Inv-loop μ-loop
-sub-loop c = search needs
-
-add-e : tie.Need-add-e Inv-loop μ-loop
-add-e c = search needs
-
-add-sums16 : tie.Need-add-sums16 Inv-loop μ-loop
-add-sums16 c = search needs
-
 sums16-requires : tie.Need-sums16-requires Inv-loop μ-loop
 sums16-requires c κs =
     let q = c .before .before .before .before .before .before .pre in
     (q .1 .0, (q .1 .1 .0, λ k l. omega (arith, c .before .loop .inv .1 .long, q .1 .1 .1 .0 k l)))
-
-mul-put16 : tie.Need-mul-put16 Inv-loop μ-loop
-mul-put16 c = search needs
-
-sub-put16 : tie.Need-sub-put16 Inv-loop μ-loop
-sub-put16 c = search needs
-
-part-put16-start : tie.Need-part-put16-start Inv-loop μ-loop
-part-put16-start c = search needs
-
-part-put16-end : tie.Need-part-put16-end Inv-loop μ-loop
-part-put16-end c = search needs
 
 put16-requires : tie.Need-put16-requires Inv-loop μ-loop
 put16-requires c κs =
@@ -62,9 +41,6 @@ put16-requires c κs =
       (λ t k. number-as (a .p) (columnSum (a .ws .now) (a .src .now) (a .at0 + l .loop .j + t) (a .row) (length (a .ws .now))) (b .pre .0 .0) (b .pre .0 .1) (sums .ensures .1 t k) (sums .ensures .0 t k) (l .before .before .scaled .ensures) (l .before .scaled2 .ensures)),
       part-size (l .loop .out) (l .loop .j) 16 (omega (arith, l .loop .inv .1 .long)),
     )
-
-loop-less : tie.Need-loop-less Inv-loop μ-loop
-loop-less c = search needs
 
 loop-again : tie.Need-loop-again Inv-loop μ-loop
 loop-again c =
@@ -78,31 +54,11 @@ loop-again c =
           (double-part (a .p) (a .ws .now) (a .src .now) (a .at0) (a .row) (l .loop .j) 16 (sums .result) (b .pre .0 .0) (b .pre .0 .1) (sums .ensures .1) (sums .ensures .0) (l .before .before .scaled .ensures) (l .before .scaled2 .ensures) (c .before .before .put16 .ensures)),
     )
 
-same-length : tie.Need-same-length Inv-loop μ-loop
-same-length c = search needs
-
 returns : tie.Need-returns Inv-loop μ-loop
 returns c = (c .before .loop .inv .0, c .before .loop .inv .1 .is)
 
 pub short-chunks-spec : {M : Type 1} → statement M
 short-chunks-spec =
     tie.close
-    (tie.spec
-    Inv-loop
-    μ-loop
-    scaled-requires
-    scaled-requires-2
-    loop-holds
-    sub-loop
-    add-e
-    add-sums16
-    sums16-requires
-    mul-put16
-    sub-put16
-    part-put16-start
-    part-put16-end
-    put16-requires
-    loop-less
-    loop-again
-    same-length
-    returns)
+    (tie.spec Inv-loop μ-loop scaled-requires scaled-requires-2 loop-holds (λ c. search needs) (λ c. search needs) (λ c. search needs) sums16-requires
+    (λ c. search needs) (λ c. search needs) (λ c. search needs) (λ c. search needs) put16-requires (λ c. search needs) loop-again (λ c. search needs) returns)

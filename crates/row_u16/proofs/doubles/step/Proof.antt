@@ -4,11 +4,8 @@ use borrow.Author.Needs.{needs}
 use Rattle.row_u16.proofs.doubles.step.Statement.{statement}
 use Rattle.row_u16.proofs.doubles.step.Tie as tie
 
-sample-requires : tie.Need-sample-requires
-sample-requires c κs = search needs
-
 returns : tie.Need-returns
 returns c = rw (c .sample .ensures) refl
 
 pub step-spec : {M : Type 1} → statement M
-step-spec = tie.close (tie.spec sample-requires returns)
+step-spec = tie.close (tie.spec (λ c κs. search needs) returns)

@@ -36,15 +36,6 @@ loop-holds c =
       (λ t h. size-none (a .ws .now) (a .src .now) (a .at0 + t) (a .row)),
     )
 
-mul-weight : tie.Need-mul-weight Inv-loop μ-loop
-mul-weight c = omega arith
-
-shared-slice-copy-out-weight : tie.Need-shared-slice-copy-out-weight Inv-loop μ-loop
-shared-slice-copy-out-weight c = omega arith
-
-weight-requires : tie.Need-weight-requires Inv-loop μ-loop
-weight-requires c κs = search needs
-
 add16-requires : tie.Need-add16-requires Inv-loop μ-loop
 add16-requires c κs =
     let l = c .before .before .before in (l .loop .inv .2, rw (l .loop .inv .1) (l .before .before .pre .1 .1 (l .loop .k) (c .before .before .loop-test .taken)))
@@ -53,12 +44,6 @@ add-at : tie.Need-add-at Inv-loop μ-loop
 add-at c =
     let l = c .before .before .before .before in
     omega (arith, l .before .before .pre .1 .1 (l .loop .k) (c .before .before .before .loop-test .taken))
-
-add-k : tie.Need-add-k Inv-loop μ-loop
-add-k c = omega arith
-
-loop-less : tie.Need-loop-less Inv-loop μ-loop
-loop-less c = omega arith
 
 loop-again : tie.Need-loop-again Inv-loop μ-loop
 loop-again c =
@@ -82,16 +67,5 @@ returns c =
 pub sums16-spec : {M : Type 1} → statement M
 sums16-spec =
     tie.close
-    (tie.spec
-    Inv-loop
-    μ-loop
-    loop-holds
-    mul-weight
-    shared-slice-copy-out-weight
-    weight-requires
-    add16-requires
-    add-at
-    add-k
-    loop-less
-    loop-again
-    returns)
+    (tie.spec Inv-loop μ-loop loop-holds (λ c. omega arith) (λ c. omega arith) (λ c κs. search needs) add16-requires add-at (λ c. omega arith)
+    (λ c. omega arith) loop-again returns)

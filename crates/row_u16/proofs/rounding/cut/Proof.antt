@@ -9,12 +9,6 @@ use Rattle.row_u16.specs.Chunks.{atLeast, atMost, placed}
 use Rattle.row_u16.proofs.rounding.cut.Statement.{statement}
 use Rattle.row_u16.proofs.rounding.cut.Tie as tie
 
-at-least-requires : tie.Need-at-least-requires
-at-least-requires c κs = search needs
-
-at-most-requires : tie.Need-at-most-requires
-at-most-requires c κs = search needs
-
 sum-is : (v top big : Float) {x y : Float} → x ≡ atLeast v → y ≡ atMost x top → add binary64 y big ≡ placed v top big
 unfolding placed
 sum-is v top big ex ey = ap (λ (z : Float). add binary64 z big) (ey ∙ ap (λ (z : Float). atMost z top) ex)
@@ -24,9 +18,6 @@ float-to-bits-result c =
     let b = c .before .before in
     subst (λ (z : Float). T (not (isNan z))) (sym (sum-is (b .args .v) (b .args .top) (b .args .big) (c .before .at-least .ensures) (c .at-most .ensures))) (b .pre)
 
-cast-result : tie.Need-cast-result
-cast-result c = search needs
-
 returns : tie.Need-returns
 returns c =
     let b = c .before .before in
@@ -35,4 +26,4 @@ returns c =
 pub cut-spec : {M : Type 1} → statement M
 cut-spec =
     tie.close
-    (tie.spec at-least-requires at-most-requires float-to-bits-result cast-result returns)
+    (tie.spec (λ c κs. search needs) (λ c κs. search needs) float-to-bits-result (λ c. search needs) returns)

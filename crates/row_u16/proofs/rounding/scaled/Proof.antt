@@ -10,15 +10,6 @@ use Rattle.floats.proofs.Codes.{no-nan-code}
 use Rattle.row_u16.proofs.rounding.scaled.Statement.{statement}
 use Rattle.row_u16.proofs.rounding.scaled.Tie as tie
 
-wide-requires : tie.Need-wide-requires
-wide-requires c κs = search needs
-
-mul-result : tie.Need-mul-result
-mul-result c = search needs
-
-add-result : tie.Need-add-result
-add-result c = search needs
-
 number : (b p : ℕ) {q : ℕ} → b ≤ 0x43ff_ffff_ffff_ffff → p ≤ 45 → q ≡ p → T (not (nanBits binary64 (b + q * 2 ^ 52)))
 number b p {q} h l e = no-nan-code binary64 (b + q * 2 ^ 52) (omega arith)
 
@@ -30,4 +21,4 @@ returns c = ap (λ (q : ℕ). ofBits binary64 (c .before .args .b + q * 2 ^ 52))
 
 pub scaled-spec : {M : Type 1} → statement M
 scaled-spec =
-    tie.close (tie.spec wide-requires mul-result add-result float-from-bits-result returns)
+    tie.close (tie.spec (λ c κs. search needs) (λ c. search needs) (λ c. search needs) float-from-bits-result returns)

@@ -25,18 +25,6 @@ abbrev μ-loop : tie.MeasureT-loop
 loop-holds : tie.Need-loop-holds Inv-loop μ-loop
 loop-holds c = (omega arith, written-none)
 
-mul-step : tie.Need-mul-step Inv-loop μ-loop
-mul-step c = search needs
-
-slice-copy-out-step : tie.Need-slice-copy-out-step Inv-loop μ-loop
-slice-copy-out-step c = search needs
-
-add-step : tie.Need-add-step Inv-loop μ-loop
-add-step c = search needs
-
-mul-step-2 : tie.Need-mul-step-2 Inv-loop μ-loop
-mul-step-2 c = search needs
-
 shared-slice-read-step : tie.Need-shared-slice-read-step Inv-loop μ-loop
 shared-slice-read-step c =
     let l = c .before .before .before in
@@ -47,27 +35,12 @@ step-requires c κs =
     let l = c .before .before .before in
     rw (back (c .before .step-arg .given), not-yet (pos 0) (l .loop .inv .1)) (l .before .before .pre .1 (l .loop .t) (omega (arith, l .loop .inv .1 .long)))
 
-mul-t15 : tie.Need-mul-t15 Inv-loop μ-loop
-mul-t15 c = search needs
-
-slice-set-from-ss : tie.Need-slice-set-from-ss Inv-loop μ-loop
-slice-set-from-ss c = search needs
-
-add-t : tie.Need-add-t Inv-loop μ-loop
-add-t c = search needs
-
-loop-less : tie.Need-loop-less Inv-loop μ-loop
-loop-less c = search needs
-
 loop-again : tie.Need-loop-again Inv-loop μ-loop
 loop-again c =
     let l = c .before .before .before .before in (
       omega (arith, l .loop .inv .1 .long),
       written-more (l .loop .inv .1) (omega (arith, l .loop .inv .1 .long)) (back (c .step .ok) ∙ (c .step .ensures ∙ rw (back (c .before .before .step-arg .given), not-yet (pos 0) (l .loop .inv .1)) refl)),
     )
-
-same-length : tie.Need-same-length Inv-loop μ-loop
-same-length c = search needs
 
 returns : tie.Need-returns Inv-loop μ-loop
 returns c =
@@ -80,20 +53,5 @@ returns c =
 pub add-line-spec : {M : Type 1} → statement M
 add-line-spec =
     tie.close
-    (tie.spec
-    Inv-loop
-    μ-loop
-    loop-holds
-    mul-step
-    slice-copy-out-step
-    add-step
-    mul-step-2
-    shared-slice-read-step
-    step-requires
-    mul-t15
-    slice-set-from-ss
-    add-t
-    loop-less
-    loop-again
-    same-length
-    returns)
+    (tie.spec Inv-loop μ-loop loop-holds (λ c. search needs) (λ c. search needs) (λ c. search needs) (λ c. search needs) shared-slice-read-step step-requires
+    (λ c. search needs) (λ c. search needs) (λ c. search needs) (λ c. search needs) loop-again (λ c. search needs) returns)

@@ -23,12 +23,6 @@ loop-holds c =
     let a = c .before .args in
     (omega arith, omega arith, added-none (a .ws .now) (a .src .now) (a .at0) (a .row) (a .ss .now) (c .before .pre .1 .1 .1))
 
-mul-add-line : tie.Need-mul-add-line Inv-loop μ-loop
-mul-add-line c = search needs
-
-shared-slice-copy-out-add-line : tie.Need-shared-slice-copy-out-add-line Inv-loop μ-loop
-shared-slice-copy-out-add-line c = search needs
-
 add-line-requires : tie.Need-add-line-requires Inv-loop μ-loop
 add-line-requires c κs =
     let l = c .before .before .before in
@@ -43,12 +37,6 @@ add-at : tie.Need-add-at Inv-loop μ-loop
 add-at c =
     let l = c .before .before .before .before .before in
     omega (arith, l .before .before .pre .1 .1 .0 (l .loop .k) (c .before .before .before .before .loop-test .taken))
-
-add-k : tie.Need-add-k Inv-loop μ-loop
-add-k c = search needs
-
-loop-less : tie.Need-loop-less Inv-loop μ-loop
-loop-less c = search needs
 
 loop-again : tie.Need-loop-again Inv-loop μ-loop
 loop-again c =
@@ -74,16 +62,5 @@ returns c =
 pub add-lines-spec : {M : Type 1} → statement M
 add-lines-spec =
     tie.close
-    (tie.spec
-    Inv-loop
-    μ-loop
-    loop-holds
-    mul-add-line
-    shared-slice-copy-out-add-line
-    add-line-requires
-    add-at
-    add-k
-    loop-less
-    loop-again
-    same-length
-    returns)
+    (tie.spec Inv-loop μ-loop loop-holds (λ c. search needs) (λ c. search needs) add-line-requires add-at (λ c. search needs) (λ c. search needs) loop-again
+    same-length returns)

@@ -11,17 +11,8 @@ use mathlib.Core.Path.{refl}
 use native.Mathlib.Omega.{arith}
 
 -- src/digits.rt:33:9
-returns : tie.Need-returns
-returns c = search needs
-
 -- src/digits.rt:36:9
-returns-2 : tie.Need-returns-2
-returns-2 c = search needs
-
 -- src/digits.rt:38:13
-cast-d : tie.Need-cast-d
-cast-d c = search needs
-
 -- src/digits.rt:40:35
 mul-goes-on : tie.Need-mul-goes-on
 mul-goes-on c =
@@ -69,9 +60,6 @@ returns-5 c =
     first-zero (args .low) (args .high) (args .count) (args .n) _ (args .b) _ refl (omega arith) (omega arith) (c .if5 .taken) (omega arith)
 
 -- src/digits.rt:48:5
-goes-on-requires-2 : tie.Need-goes-on-requires-2
-goes-on-requires-2 c κs = search needs
-
 -- src/digits.rt:28:1
 returns-6 : tie.Need-returns-6
 returns-6 c =
@@ -82,15 +70,5 @@ returns-6 c =
 pub digit-goes-on-spec : {M : Type 1} → statement M
 digit-goes-on-spec =
     tie.close
-    (tie.spec
-    returns
-    returns-2
-    cast-d
-    mul-goes-on
-    add-goes-on
-    goes-on-requires
-    returns-3
-    returns-4
-    returns-5
-    goes-on-requires-2
-    returns-6)
+    (tie.spec (λ c. search needs) (λ c. search needs) (λ c. search needs) mul-goes-on add-goes-on goes-on-requires returns-3 returns-4 returns-5
+    (λ c κs. search needs) returns-6)

@@ -37,13 +37,7 @@ loop-holds c =
     }
 
 -- src/digits.rt:59:17
-shared-slice-read-b : tie.Need-shared-slice-read-b Inv-loop μ-loop
-shared-slice-read-b c = search needs
-
 -- src/digits.rt:62:40
-add-t16 : tie.Need-add-t16 Inv-loop μ-loop
-add-t16 c = search needs
-
 -- src/digits.rt:62:17
 returns : tie.Need-returns Inv-loop μ-loop
 returns c =
@@ -67,9 +61,6 @@ returns-2 c =
     (λ next. pre .2 (next .d) (next .small) (sym (next .is) ∙ c .before .if1 .taken))
 
 -- src/digits.rt:66:38
-sub-digit-goes-on : tie.Need-sub-digit-goes-on Inv-loop μ-loop
-sub-digit-goes-on c = search needs
-
 -- src/digits.rt:66:13
 digit-goes-on-requires : tie.Need-digit-goes-on-requires Inv-loop μ-loop
 digit-goes-on-requires c κs =
@@ -136,13 +127,7 @@ add-n c =
     record { fits = omega arith }
 
 -- src/digits.rt:70:9
-add-p : tie.Need-add-p Inv-loop μ-loop
-add-p c = search needs
-
 -- src/digits.rt:58:5
-loop-less : tie.Need-loop-less Inv-loop μ-loop
-loop-less c = search needs
-
 -- src/digits.rt:58:5
 loop-again : tie.Need-loop-again Inv-loop μ-loop
 loop-again c =
@@ -161,22 +146,5 @@ returns-4 c =
 pub take-number-spec : {M : Type 1} → statement M
 take-number-spec =
     tie.close
-    (tie.spec
-    Inv-loop
-    μ-loop
-    loop-holds
-    shared-slice-read-b
-    add-t16
-    returns
-    returns-2
-    sub-digit-goes-on
-    digit-goes-on-requires
-    returns-3
-    mul-n
-    sub-n
-    cast-n
-    add-n
-    add-p
-    loop-less
-    loop-again
-    returns-4)
+    (tie.spec Inv-loop μ-loop loop-holds (λ c. search needs) (λ c. search needs) returns returns-2 (λ c. search needs) digit-goes-on-requires returns-3 mul-n
+    sub-n cast-n add-n (λ c. search needs) (λ c. search needs) loop-again returns-4)

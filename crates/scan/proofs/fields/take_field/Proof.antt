@@ -12,17 +12,8 @@ use mathlib.Core.Path.{subst}
 use native.Mathlib.Omega.{arith}
 
 -- src/fields.rt:27:11
-take-key-requires : tie.Need-take-key-requires
-take-key-requires c κs = search needs
-
 -- src/fields.rt:28:21
-enum-known-stop : tie.Need-enum-known-stop
-enum-known-stop c = search needs
-
 -- src/fields.rt:29:21
-enum-known-next : tie.Need-enum-known-next
-enum-known-next c = search needs
-
 -- src/fields.rt:29:30
 take-number-requires : tie.Need-take-number-requires
 take-number-requires c κs =
@@ -46,10 +37,4 @@ returns-2 c =
 pub take-field-spec : {M : Type 1} → statement M
 take-field-spec =
     tie.close
-    (tie.spec
-    take-key-requires
-    enum-known-stop
-    enum-known-next
-    take-number-requires
-    returns
-    returns-2)
+    (tie.spec (λ c κs. search needs) (λ c. search needs) (λ c. search needs) take-number-requires returns returns-2)

@@ -10,18 +10,6 @@ use Rattle.scan.proofs.KnownLaws.{right-fits, right-long, right-is}
 use Rattle.scan.proofs.known.compared.Statement.{statement}
 use Rattle.scan.proofs.known.compared.Tie as tie
 
-put-signed-requires : tie.Need-put-signed-requires
-put-signed-requires c κs = search needs
-
-put-byte-requires : tie.Need-put-byte-requires
-put-byte-requires c κs = search needs
-
-sub-take-key : tie.Need-sub-take-key
-sub-take-key c = search needs
-
-part-take-key-start : tie.Need-part-take-key-start
-part-take-key-start c = search needs
-
 part-take-key-end : tie.Need-part-take-key-end
 part-take-key-end c =
     let a = c .before .before .before .before .before .before .before .before .before .before .before in
@@ -31,12 +19,6 @@ part-take-key-end c =
     let fits = right-fits (a .args .v) (a .args .end) (a .args .right .now) (a .pre .1) (signed .0 ∙ rw same) (signed .1 ∙ rw same) (ended .0) (ended .1) in
     let long = right-long (a .args .v) (a .args .end) (a .args .right .now) (a .pre .1) (signed .0 ∙ rw same) (signed .1 ∙ rw same) (ended .0) (ended .1) in
     search needs
-
-take-key-requires : tie.Need-take-key-requires
-take-key-requires c κs = search needs
-
-same-length : tie.Need-same-length
-same-length c = search needs
 
 returns : tie.Need-returns
 returns c =
@@ -50,12 +32,5 @@ returns c =
 pub compared-spec : {M : Type 1} → statement M
 compared-spec =
     tie.close
-    (tie.spec
-    put-signed-requires
-    put-byte-requires
-    sub-take-key
-    part-take-key-start
-    part-take-key-end
-    take-key-requires
-    same-length
-    returns)
+    (tie.spec (λ c κs. search needs) (λ c κs. search needs) (λ c. search needs) (λ c. search needs) part-take-key-end (λ c κs. search needs)
+    (λ c. search needs) returns)

@@ -10,16 +10,10 @@ use Rattle.scan.specs.Answer.{Passes}
 use Rattle.scan.proofs.known.take_known.Statement.{statement}
 use Rattle.scan.proofs.known.take_known.Tie as tie
 
-slice-aggregate-compared : tie.Need-slice-aggregate-compared
-slice-aggregate-compared c = search needs
-
-compared-requires : tie.Need-compared-requires
-compared-requires c κs = search needs
-
 returns : tie.Need-returns
 returns c =
     let a = c .before .before .before .before in
     subst (λ (v : ℤ). Passes (fixed (signed v ++ (a .args .end ∷ []))) (a .args .text .now) (a .args .at) (c .before .compared .result)) (toZ-ofZ (a .fits .v)) (c .before .compared .ensures)
 
 pub take-known-spec : {M : Type 1} → statement M
-take-known-spec = tie.close (tie.spec slice-aggregate-compared compared-requires returns)
+take-known-spec = tie.close (tie.spec (λ c. search needs) (λ c κs. search needs) returns)

@@ -15,12 +15,6 @@ returns : tie.Need-returns
 returns c = sym (ap (λ (x : ℕ). eqb x 45) (List·getD-eq-default (c .before .args .text .now) 0 (search needs)))
 
 -- src/signs.rt:19:5
-shared-slice-read-result : tie.Need-shared-slice-read-result
-shared-slice-read-result c = search needs
-
 -- src/signs.rt:13:1
-returns-2 : tie.Need-returns-2
-returns-2 c = search needs
-
 pub minus-at-spec : {M : Type 1} → statement M
-minus-at-spec = tie.close (tie.spec returns shared-slice-read-result returns-2)
+minus-at-spec = tie.close (tie.spec returns (λ c. search needs) (λ c. search needs))

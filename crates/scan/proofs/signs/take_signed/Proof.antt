@@ -20,13 +20,7 @@ use Rattle.scan.proofs.SignLaws.{minus-within, minus-found, minus-stopp
 use native.Mathlib.Omega.{arith}
 
 -- src/signs.rt:27:8
-minus-at-requires : tie.Need-minus-at-requires
-minus-at-requires c κs = search needs
-
 -- src/signs.rt:28:55
-add-take-number : tie.Need-add-take-number
-add-take-number c = search needs
-
 -- src/signs.rt:28:22
 take-number-requires : tie.Need-take-number-requires
 take-number-requires c κs =
@@ -35,9 +29,6 @@ take-number-requires c κs =
     (a .pre .0, a .pre .1, a .pre .2, minus-within t (a .args .at) (eqb-true (getD t (a .args .at) 0) 45 (sym (c .before .minus-at .ensures) ∙ c .if1 .taken)))
 
 -- src/signs.rt:29:26
-enum-known-n : tie.Need-enum-known-n
-enum-known-n c = search needs
-
 -- src/signs.rt:29:54
 cast-t15 : tie.Need-cast-t15
 cast-t15 c =
@@ -59,9 +50,6 @@ sub-t16 c =
     rw (m .gives) (m .fits)
 
 -- src/signs.rt:30:25
-enum-known-stop : tie.Need-enum-known-stop
-enum-known-stop c = search needs
-
 -- src/signs.rt:28:9
 returns : tie.Need-returns
 returns c =
@@ -84,17 +72,8 @@ returns-2 c =
     minus-stopped (a .args .limit) (a .args .end) t (a .args .at) minus f
 
 -- src/signs.rt:33:26
-sub-take-number : tie.Need-sub-take-number
-sub-take-number c = search needs
-
 -- src/signs.rt:33:11
-take-number-requires-2 : tie.Need-take-number-requires-2
-take-number-requires-2 c κs = search needs
-
 -- src/signs.rt:34:22
-enum-known-n-2 : tie.Need-enum-known-n-2
-enum-known-n-2 c = search needs
-
 -- src/signs.rt:34:48
 cast-t20 : tie.Need-cast-t20
 cast-t20 c =
@@ -105,9 +84,6 @@ cast-t20 c =
     record { sfits = omega arith }
 
 -- src/signs.rt:35:21
-enum-known-stop-2 : tie.Need-enum-known-stop-2
-enum-known-stop-2 c = search needs
-
 -- src/signs.rt:23:1
 returns-3 : tie.Need-returns-3
 returns-3 c =
@@ -131,20 +107,5 @@ returns-4 c =
 pub take-signed-spec : {M : Type 1} → statement M
 take-signed-spec =
     tie.close
-    (tie.spec
-    minus-at-requires
-    add-take-number
-    take-number-requires
-    enum-known-n
-    cast-t15
-    sub-t16
-    enum-known-stop
-    returns
-    returns-2
-    sub-take-number
-    take-number-requires-2
-    enum-known-n-2
-    cast-t20
-    enum-known-stop-2
-    returns-3
-    returns-4)
+    (tie.spec (λ c κs. search needs) (λ c. search needs) take-number-requires (λ c. search needs) cast-t15 sub-t16 (λ c. search needs) returns returns-2
+    (λ c. search needs) (λ c κs. search needs) (λ c. search needs) cast-t20 (λ c. search needs) returns-3 returns-4)

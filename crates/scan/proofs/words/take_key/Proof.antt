@@ -11,13 +11,7 @@ use Rattle.scan.proofs.FieldLaws.{key-found, key-stopped}
 use native.Mathlib.Omega.{arith}
 
 -- src/words.rt:34:9
-shared-requires : tie.Need-shared-requires
-shared-requires c κs = search needs
-
 -- src/words.rt:36:28
-add-t7 : tie.Need-add-t7
-add-t7 c = search needs
-
 -- src/words.rt:36:9
 returns : tie.Need-returns
 returns c = key-stopped _ _ _ _ (c .before .shared .ensures) (search needs)
@@ -37,4 +31,4 @@ returns-2 : tie.Need-returns-2
 returns-2 c = (tt, key-found _ _ _ _ (c .before .shared .ensures) (search needs))
 
 pub take-key-spec : {M : Type 1} → statement M
-take-key-spec = tie.close (tie.spec shared-requires add-t7 returns add-t5 returns-2)
+take-key-spec = tie.close (tie.spec (λ c κs. search needs) (λ c. search needs) returns add-t5 returns-2)

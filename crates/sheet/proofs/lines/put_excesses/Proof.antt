@@ -7,21 +7,6 @@ use borrow.Author.Needs.{needs}
 use Rattle.sheet.proofs.lines.put_excesses.Statement.{statement}
 use Rattle.sheet.proofs.lines.put_excesses.Tie as tie
 
-slice-aggregate-put : tie.Need-slice-aggregate-put
-slice-aggregate-put c = search needs
-
-put-requires : tie.Need-put-requires
-put-requires c κs = search needs
-
-put-list-requires : tie.Need-put-list-requires
-put-list-requires c κs = search needs
-
-put-byte-requires : tie.Need-put-byte-requires
-put-byte-requires c κs = search needs
-
-same-length : tie.Need-same-length
-same-length c = search needs
-
 returns : tie.Need-returns
 unfolding excessText
 returns c =
@@ -37,10 +22,4 @@ returns c =
 pub put-excesses-spec : {M : Type 1} → statement M
 put-excesses-spec =
     tie.close
-    (tie.spec
-    slice-aggregate-put
-    put-requires
-    put-list-requires
-    put-byte-requires
-    same-length
-    returns)
+    (tie.spec (λ c. search needs) (λ c κs. search needs) (λ c κs. search needs) (λ c κs. search needs) (λ c. search needs) returns)

@@ -23,21 +23,6 @@ abbrev μ-loop : tie.MeasureT-loop
 loop-holds : tie.Need-loop-holds Inv-loop μ-loop
 loop-holds c = (search needs, laid-none _ _ (search needs) (search needs))
 
-mul-put-item : tie.Need-mul-put-item Inv-loop μ-loop
-mul-put-item c = search needs
-
-shared-slice-copy-out-put-item : tie.Need-shared-slice-copy-out-put-item Inv-loop μ-loop
-shared-slice-copy-out-put-item c = search needs
-
-put-item-requires : tie.Need-put-item-requires Inv-loop μ-loop
-put-item-requires c κs = search needs
-
-add-j : tie.Need-add-j Inv-loop μ-loop
-add-j c = search needs
-
-loop-less : tie.Need-loop-less Inv-loop μ-loop
-loop-less c = search needs
-
 loop-again : tie.Need-loop-again Inv-loop μ-loop
 loop-again c = let at = c .before .before .before .before .before .before in
     let a = at .before .before .args in
@@ -58,15 +43,5 @@ returns c =
 pub put-list-spec : {M : Type 1} → statement M
 put-list-spec =
     tie.close
-    (tie.spec
-    Inv-loop
-    μ-loop
-    loop-holds
-    mul-put-item
-    shared-slice-copy-out-put-item
-    put-item-requires
-    add-j
-    loop-less
-    loop-again
-    same-length
-    returns)
+    (tie.spec Inv-loop μ-loop loop-holds (λ c. search needs) (λ c. search needs) (λ c κs. search needs) (λ c. search needs) (λ c. search needs) loop-again
+    same-length returns)

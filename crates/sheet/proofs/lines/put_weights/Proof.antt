@@ -29,18 +29,6 @@ add-weight-at c =
     let some : length (lent (a .wide) (a .short .now) (a .long .now)) < 2 ^ 64 = lent-long (a .wide) (a .short .now) (a .long .now) (search needs) (search needs) in
     search needs
 
-weight-at-requires : tie.Need-weight-at-requires Inv-loop μ-loop
-weight-at-requires c κs = search needs
-
-put-item-requires : tie.Need-put-item-requires Inv-loop μ-loop
-put-item-requires c κs = search needs
-
-add-j : tie.Need-add-j Inv-loop μ-loop
-add-j c = search needs
-
-loop-less : tie.Need-loop-less Inv-loop μ-loop
-loop-less c = search needs
-
 loop-again : tie.Need-loop-again Inv-loop μ-loop
 loop-again c =
     let at = c .before .before .before .before .before .before in
@@ -61,15 +49,5 @@ returns c =
 pub put-weights-spec : {M : Type 1} → statement M
 put-weights-spec =
     tie.close
-    (tie.spec
-    Inv-loop
-    μ-loop
-    loop-holds
-    add-weight-at
-    weight-at-requires
-    put-item-requires
-    add-j
-    loop-less
-    loop-again
-    same-length
-    returns)
+    (tie.spec Inv-loop μ-loop loop-holds add-weight-at (λ c κs. search needs) (λ c κs. search needs) (λ c. search needs) (λ c. search needs) loop-again
+    same-length returns)

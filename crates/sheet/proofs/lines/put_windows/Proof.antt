@@ -38,21 +38,6 @@ row c =
 loop-holds : tie.Need-loop-holds Inv-loop μ-loop
 loop-holds c = (search needs, sym (zero-mul _), laid-none _ _ (search needs) (search needs))
 
-mul-size : tie.Need-mul-size Inv-loop μ-loop
-mul-size c = search needs
-
-shared-slice-read-size : tie.Need-shared-slice-read-size Inv-loop μ-loop
-shared-slice-read-size c = search needs
-
-mul-put-open : tie.Need-mul-put-open Inv-loop μ-loop
-mul-put-open c = search needs
-
-shared-slice-read-put-open : tie.Need-shared-slice-read-put-open Inv-loop μ-loop
-shared-slice-read-put-open c = search needs
-
-put-open-requires : tie.Need-put-open-requires Inv-loop μ-loop
-put-open-requires c κs = search needs
-
 put-weights-requires : tie.Need-put-weights-requires Inv-loop μ-loop
 put-weights-requires c κs =
     let in-turn = c .before .before .before .before .before .before .before in
@@ -60,20 +45,11 @@ put-weights-requires c κs =
     let start = in-turn .before .before .before .before .before in
     omega (arith, row in-turn, start .pre .small (at .loop .i) (in-turn .loop-test .taken))
 
-put-byte-requires : tie.Need-put-byte-requires Inv-loop μ-loop
-put-byte-requires c κs = search needs
-
 add-from : tie.Need-add-from Inv-loop μ-loop
 add-from c =
     let in-turn = c .before .before .before .before .before .before .before .before .before .before .before .before .before .before in
     let a = in-turn .before .before .before .before .before .args in
     omega (arith, row in-turn, lent-long (a .wide) (a .short .now) (a .long .now) (search needs) (search needs))
-
-add-i : tie.Need-add-i Inv-loop μ-loop
-add-i c = search needs
-
-loop-less : tie.Need-loop-less Inv-loop μ-loop
-loop-less c = search needs
 
 loop-again : tie.Need-loop-again Inv-loop μ-loop
 loop-again c =
@@ -100,20 +76,5 @@ returns c =
 pub put-windows-spec : {M : Type 1} → statement M
 put-windows-spec =
     tie.close
-    (tie.spec
-    Inv-loop
-    μ-loop
-    loop-holds
-    mul-size
-    shared-slice-read-size
-    mul-put-open
-    shared-slice-read-put-open
-    put-open-requires
-    put-weights-requires
-    put-byte-requires
-    add-from
-    add-i
-    loop-less
-    loop-again
-    same-length
-    returns)
+    (tie.spec Inv-loop μ-loop loop-holds (λ c. search needs) (λ c. search needs) (λ c. search needs) (λ c. search needs) (λ c κs. search needs)
+    put-weights-requires (λ c κs. search needs) add-from (λ c. search needs) (λ c. search needs) loop-again same-length returns)

@@ -5,15 +5,6 @@ use Rattle.sheet.specs.Text.{kindText, sidesText, storeText, headText}
 use Rattle.sheet.proofs.parts.put_head.Statement.{statement}
 use Rattle.sheet.proofs.parts.put_head.Tie as tie
 
-put-kind-line-requires : tie.Need-put-kind-line-requires
-put-kind-line-requires c κs = search needs
-
-put-sides-requires : tie.Need-put-sides-requires
-put-sides-requires c κs = search needs
-
-put-store-requires : tie.Need-put-store-requires
-put-store-requires c κs = search needs
-
 same-length : tie.Need-same-length
 same-length c =
     let start = c .before .before .before .before .before .before .before .before .before .before .before .before .before in
@@ -34,4 +25,4 @@ returns c =
 pub put-head-spec : {M : Type 1} → statement M
 put-head-spec =
     tie.close
-    (tie.spec put-kind-line-requires put-sides-requires put-store-requires same-length returns)
+    (tie.spec (λ c κs. search needs) (λ c κs. search needs) (λ c κs. search needs) same-length returns)

@@ -19,12 +19,6 @@ more : (c : tie.Else1) → itemText (c .before .before .args .j) (c .before .bef
 unfolding itemText
 more c = rw (ne-eqb (c .before .before .args .j) 0 (c .if1 .left))
 
-put-signed-requires : tie.Need-put-signed-requires
-put-signed-requires c κs = search needs
-
-same-length : tie.Need-same-length
-same-length c = search needs
-
 returns : tie.Need-returns
 returns c =
     let split = c .before .before .before .before in
@@ -33,15 +27,6 @@ returns c =
       put .ensures .0 ∙ rw (toZ-ofZ (c .before .before .before .before .before .before .fits .v)),
       put .ensures .1 ∙ rw (toZ-ofZ (c .before .before .before .before .before .before .fits .v)),
     )
-
-put-byte-requires : tie.Need-put-byte-requires
-put-byte-requires c κs = search needs
-
-put-signed-requires-2 : tie.Need-put-signed-requires-2
-put-signed-requires-2 c κs = search needs
-
-same-length-2 : tie.Need-same-length-2
-same-length-2 c = search needs
 
 returns-2 : tie.Need-returns-2
 returns-2 c =
@@ -55,11 +40,4 @@ returns-2 c =
 pub put-item-spec : {M : Type 1} → statement M
 put-item-spec =
     tie.close
-    (tie.spec
-    put-signed-requires
-    same-length
-    returns
-    put-byte-requires
-    put-signed-requires-2
-    same-length-2
-    returns-2)
+    (tie.spec (λ c κs. search needs) (λ c. search needs) returns (λ c κs. search needs) (λ c κs. search needs) (λ c. search needs) returns-2)

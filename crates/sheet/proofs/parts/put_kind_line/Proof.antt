@@ -6,18 +6,6 @@ use Rattle.sheet.specs.Text.{kindText}
 use Rattle.sheet.proofs.parts.put_kind_line.Statement.{statement}
 use Rattle.sheet.proofs.parts.put_kind_line.Tie as tie
 
-slice-aggregate-put : tie.Need-slice-aggregate-put
-slice-aggregate-put c = search needs
-
-put-requires : tie.Need-put-requires
-put-requires c κs = search needs
-
-put-kind-requires : tie.Need-put-kind-requires
-put-kind-requires c κs = search needs
-
-put-byte-requires : tie.Need-put-byte-requires
-put-byte-requires c κs = search needs
-
 same-length : tie.Need-same-length
 same-length c =
     let start = c .before .before .before .before .before .before .before .before .before .before .before .before .before .before in
@@ -38,10 +26,4 @@ returns c =
 pub put-kind-line-spec : {M : Type 1} → statement M
 put-kind-line-spec =
     tie.close
-    (tie.spec
-    slice-aggregate-put
-    put-requires
-    put-kind-requires
-    put-byte-requires
-    same-length
-    returns)
+    (tie.spec (λ c. search needs) (λ c κs. search needs) (λ c κs. search needs) (λ c κs. search needs) same-length returns)

@@ -7,18 +7,6 @@ use Rattle.sheet.specs.Keys.{keyStore, keyPrecision}
 use Rattle.sheet.proofs.parts.put_store.Statement.{statement}
 use Rattle.sheet.proofs.parts.put_store.Tie as tie
 
-slice-aggregate-put-line : tie.Need-slice-aggregate-put-line
-slice-aggregate-put-line c = search needs
-
-put-line-requires : tie.Need-put-line-requires
-put-line-requires c κs = search needs
-
-slice-aggregate-put-line-2 : tie.Need-slice-aggregate-put-line-2
-slice-aggregate-put-line-2 c = search needs
-
-put-line-requires-2 : tie.Need-put-line-requires-2
-put-line-requires-2 c κs = search needs
-
 same-length : tie.Need-same-length
 same-length c =
     let start = c .before .before .before .before .before .before .before .before .before .before .before in
@@ -37,10 +25,4 @@ returns c =
 pub put-store-spec : {M : Type 1} → statement M
 put-store-spec =
     tie.close
-    (tie.spec
-    slice-aggregate-put-line
-    put-line-requires
-    slice-aggregate-put-line-2
-    put-line-requires-2
-    same-length
-    returns)
+    (tie.spec (λ c. search needs) (λ c κs. search needs) (λ c. search needs) (λ c κs. search needs) same-length returns)

@@ -7,26 +7,11 @@ use Rattle.sheet.proofs.SheetLaws.{whole}
 use Rattle.sheet.proofs.writer.put_sheet.Statement.{statement}
 use Rattle.sheet.proofs.writer.put_sheet.Tie as tie
 
-cast-put-head : tie.Need-cast-put-head
-cast-put-head c = search needs
-
-add-put-head : tie.Need-add-put-head
-add-put-head c = search needs
-
-put-head-requires : tie.Need-put-head-requires
-put-head-requires c κs = search needs
-
 put-windows-requires : tie.Need-put-windows-requires
 put-windows-requires c κs =
     let start = c .before .before .before .before .before .before .before .before .before in
     let a = start .args in
     fits-most (layoutOf (a .lines) (a .window-size) (a .starts .now) (a .sizes .now)) (length (lent (a .wide) (a .short .now) (a .long .now))) (start .pre)
-
-put-excesses-requires : tie.Need-put-excesses-requires
-put-excesses-requires c κs = search needs
-
-same-length : tie.Need-same-length
-same-length c = search needs
 
 returns : tie.Need-returns
 returns c =
@@ -38,4 +23,4 @@ returns c =
     whole (a .kind) (a .store) (storedOf (setOf (layoutOf (a .lines) (a .window-size) (a .starts .now) (a .sizes .now)) (lent (a .wide) (a .short .now) (a .long .now))) (a .precision) (a .excesses .now)) (a .out .now) (search needs) (head .0) (head .1) (put .0) (put .1) (last .0) (last .1)
 
 pub put-sheet-spec : {M : Type 1} → statement M
-put-sheet-spec = tie.close (tie.spec cast-put-head add-put-head put-head-requires put-windows-requires put-excesses-requires same-length returns)
+put-sheet-spec = tie.close (tie.spec (λ c. search needs) (λ c. search needs) (λ c κs. search needs) put-windows-requires (λ c κs. search needs) (λ c. search needs) returns)

@@ -43,9 +43,6 @@ ready c = stored-fits (asked (start c)) (start c .args .store) (fitting c) (side
 counted : (c : tie.Else2) → let text = sheetText (start c .args .kind) (start c .args .store) (asked (start c)) in reached 0 (length text) ≡ length text
 counted c = sheet-counted (start c .args .kind) (start c .args .store) (asked (start c)) (ready c) (excess-count (asked (start c)) (start c .args .store) (fitting c))
 
-sides-fit-requires : tie.Need-sides-fit-requires
-sides-fit-requires c κs = search needs
-
 returns : tie.Need-returns
 returns c =
     let s = c .before .before .before .before .before in
@@ -57,9 +54,6 @@ returns-2 c =
     let good = sides (c .before) in
     let bad : wrong s ≡ true = rw good at (asked-bad (unfit (asked s) (s .args .store)) (s .pre) (c .if2 .taken)) in
     misfit-refused (s .args .kind) (s .args .store) (asked s) (s .args .out .now) good bad
-
-slice-aggregate-put-sheet : tie.Need-slice-aggregate-put-sheet
-slice-aggregate-put-sheet c = search needs
 
 put-sheet-requires : tie.Need-put-sheet-requires
 put-sheet-requires c κs = ready (c .before)
@@ -73,9 +67,6 @@ returns-3 c =
 put-sheet-requires-2 : tie.Need-put-sheet-requires-2
 put-sheet-requires-2 c κs = ready (c .before .before .before .before .before)
 
-same-length : tie.Need-same-length
-same-length c = search needs
-
 returns-4 : tie.Need-returns-4
 returns-4 c =
     let at = c .before .before .before .before .before .before .before .before in
@@ -86,13 +77,4 @@ returns-4 c =
 pub write-spec : {M : Type 1} → statement M
 write-spec =
     tie.close
-    (tie.spec
-    sides-fit-requires
-    returns
-    returns-2
-    slice-aggregate-put-sheet
-    put-sheet-requires
-    returns-3
-    put-sheet-requires-2
-    same-length
-    returns-4)
+    (tie.spec (λ c κs. search needs) returns returns-2 (λ c. search needs) put-sheet-requires returns-3 put-sheet-requires-2 (λ c. search needs) returns-4)

@@ -11,20 +11,14 @@ use Rattle.sheet_scan.proofs.StoreLaws.{named-some}
 use native.Mathlib.Omega.{arith}
 
 -- src/heads.rt:112:9
-store-named-requires : tie.Need-store-named-requires
-store-named-requires c κs = search needs
-
 -- src/heads.rt:113:6
 sub-result : tie.Need-sub-result
 sub-result c = rw (c .before .store-named .ensures) (named-some (c .before .before .args .bits))
 
 -- src/heads.rt:113:5
-cast-result : tie.Need-cast-result
-cast-result c = search needs
-
 -- src/heads.rt:109:1
 returns : tie.Need-returns
 returns c = rw (c .before .store-named .ensures)
 
 pub most-of-spec : {M : Type 1} → statement M
-most-of-spec = tie.close (tie.spec store-named-requires sub-result cast-result returns)
+most-of-spec = tie.close (tie.spec (λ c κs. search needs) sub-result (λ c. search needs) returns)

@@ -17,21 +17,9 @@ use Rattle.sheet_scan.proofs.HeadLaws.{no-digit, sizes-no-kind, sizes-n
 use native.Mathlib.Omega.{arith}
 
 -- src/heads.rt:35:9
-take-kind-requires : tie.Need-take-kind-requires
-take-kind-requires c κs = search needs
-
 -- src/heads.rt:36:21
-enum-known-k : tie.Need-enum-known-k
-enum-known-k c = search needs
-
 -- src/heads.rt:37:33
-enum-told : tie.Need-enum-told
-enum-told c = search needs
-
 -- src/heads.rt:37:33
-kind-stop-requires : tie.Need-kind-stop-requires
-kind-stop-requires c κs = search needs
-
 -- src/heads.rt:37:9
 returns : tie.Need-returns
 returns c =
@@ -40,9 +28,6 @@ returns c =
     rw (c .kind-stop .ensures ∙ ap kindPlace e) (sizes-no-kind s)
 
 -- src/heads.rt:39:24
-slice-aggregate-take-field : tie.Need-slice-aggregate-take-field
-slice-aggregate-take-field c = search needs
-
 -- src/heads.rt:39:9
 take-field-requires : tie.Need-take-field-requires
 take-field-requires c κs =
@@ -50,17 +35,8 @@ take-field-requires c κs =
     (lit≤ tt, lit< tt, no-digit, found-within _ (c .before .before .before .before .before .before .pre) f)
 
 -- src/heads.rt:40:22
-enum-known-l : tie.Need-enum-known-l
-enum-known-l c = search needs
-
 -- src/heads.rt:41:33
-enum-told-2 : tie.Need-enum-told-2
-enum-told-2 c = search needs
-
 -- src/heads.rt:41:33
-number-stop-requires : tie.Need-number-stop-requires
-number-stop-requires c κs = search needs
-
 -- src/heads.rt:41:9
 returns-2 : tie.Need-returns-2
 returns-2 c =
@@ -70,9 +46,6 @@ returns-2 c =
     rw (c .number-stop .ensures ∙ ap placeOf e) (sizes-no-in f s)
 
 -- src/heads.rt:43:24
-slice-aggregate-take-field-2 : tie.Need-slice-aggregate-take-field-2
-slice-aggregate-take-field-2 c = search needs
-
 -- src/heads.rt:43:9
 take-field-requires-2 : tie.Need-take-field-requires-2
 take-field-requires-2 c κs =
@@ -81,17 +54,8 @@ take-field-requires-2 c κs =
     (lit≤ tt, lit< tt, no-digit, found-within _ (found-within _ (c .before .before .before .before .before .before .before .before .before .before .before .pre) f) g)
 
 -- src/heads.rt:44:22
-enum-known-o : tie.Need-enum-known-o
-enum-known-o c = search needs
-
 -- src/heads.rt:45:33
-enum-told-3 : tie.Need-enum-told-3
-enum-told-3 c = search needs
-
 -- src/heads.rt:45:33
-number-stop-requires-2 : tie.Need-number-stop-requires-2
-number-stop-requires-2 c κs = search needs
-
 -- src/heads.rt:45:9
 returns-3 : tie.Need-returns-3
 returns-3 c =
@@ -102,9 +66,6 @@ returns-3 c =
     rw (c .number-stop2 .ensures ∙ ap placeOf e) (sizes-no-out f g s)
 
 -- src/heads.rt:47:24
-slice-aggregate-take-field-3 : tie.Need-slice-aggregate-take-field-3
-slice-aggregate-take-field-3 c = search needs
-
 -- src/heads.rt:47:9
 take-field-requires-3 : tie.Need-take-field-requires-3
 take-field-requires-3 c κs =
@@ -114,17 +75,8 @@ take-field-requires-3 c κs =
     (lit≤ tt, lit< tt, no-digit, found-within _ (found-within _ (found-within _ (c .before .before .before .before .before .before .before .before .before .before .before .before .before .before .before .before .pre) f) g) h)
 
 -- src/heads.rt:48:22
-enum-known-w : tie.Need-enum-known-w
-enum-known-w c = search needs
-
 -- src/heads.rt:49:33
-enum-told-4 : tie.Need-enum-told-4
-enum-told-4 c = search needs
-
 -- src/heads.rt:49:33
-number-stop-requires-3 : tie.Need-number-stop-requires-3
-number-stop-requires-3 c κs = search needs
-
 -- src/heads.rt:49:9
 returns-4 : tie.Need-returns-4
 returns-4 c =
@@ -168,31 +120,7 @@ returns-5 c =
 pub scan-sizes-spec : {M : Type 1} → statement M
 scan-sizes-spec =
     tie.close
-    (tie.spec
-    take-kind-requires
-    enum-known-k
-    enum-told
-    kind-stop-requires
-    returns
-    slice-aggregate-take-field
-    take-field-requires
-    enum-known-l
-    enum-told-2
-    number-stop-requires
-    returns-2
-    slice-aggregate-take-field-2
-    take-field-requires-2
-    enum-known-o
-    enum-told-3
-    number-stop-requires-2
-    returns-3
-    slice-aggregate-take-field-3
-    take-field-requires-3
-    enum-known-w
-    enum-told-4
-    number-stop-requires-3
-    returns-4
-    cast-t29
-    cast-t30
-    cast-t31
-    returns-5)
+    (tie.spec (λ c κs. search needs) (λ c. search needs) (λ c. search needs) (λ c κs. search needs) returns (λ c. search needs) take-field-requires
+    (λ c. search needs) (λ c. search needs) (λ c κs. search needs) returns-2 (λ c. search needs) take-field-requires-2 (λ c. search needs) (λ c. search needs)
+    (λ c κs. search needs) returns-3 (λ c. search needs) take-field-requires-3 (λ c. search needs) (λ c. search needs) (λ c κs. search needs) returns-4
+    cast-t29 cast-t30 cast-t31 returns-5)

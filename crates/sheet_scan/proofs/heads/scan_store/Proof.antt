@@ -17,21 +17,9 @@ use Rattle.sheet_scan.proofs.StoreLaws.{most-least, most-most, store-sm
 use native.Mathlib.Omega.{arith}
 
 -- src/heads.rt:106:9
-take-store-requires : tie.Need-take-store-requires
-take-store-requires c κs = search needs
-
 -- src/heads.rt:107:22
-enum-known-s : tie.Need-enum-known-s
-enum-known-s c = search needs
-
 -- src/heads.rt:108:33
-enum-told : tie.Need-enum-told
-enum-told c = search needs
-
 -- src/heads.rt:108:33
-number-stop-requires : tie.Need-number-stop-requires
-number-stop-requires c κs = search needs
-
 -- src/heads.rt:108:9
 returns : tie.Need-returns
 returns c =
@@ -40,13 +28,7 @@ returns c =
     rw (c .number-stop .ensures ∙ ap placeOf e) (lines-no-store _ s)
 
 -- src/heads.rt:110:24
-slice-aggregate-take-field : tie.Need-slice-aggregate-take-field
-slice-aggregate-take-field c = search needs
-
 -- src/heads.rt:110:45
-most-of-requires : tie.Need-most-of-requires
-most-of-requires c κs = search needs
-
 -- src/heads.rt:110:9
 take-field-requires : tie.Need-take-field-requires
 take-field-requires c κs =
@@ -58,17 +40,8 @@ take-field-requires c κs =
     (rw m least, rw m (omega arith), no-digit, found-within _ (c .before .before .before .before .before .before .before .pre) f)
 
 -- src/heads.rt:111:22
-enum-known-p : tie.Need-enum-known-p
-enum-known-p c = search needs
-
 -- src/heads.rt:112:33
-enum-told-2 : tie.Need-enum-told-2
-enum-told-2 c = search needs
-
 -- src/heads.rt:112:33
-number-stop-requires-2 : tie.Need-number-stop-requires-2
-number-stop-requires-2 c κs = search needs
-
 -- src/heads.rt:112:9
 returns-2 : tie.Need-returns-2
 returns-2 c =
@@ -102,19 +75,5 @@ returns-3 c =
 pub scan-store-spec : {M : Type 1} → statement M
 scan-store-spec =
     tie.close
-    (tie.spec
-    take-store-requires
-    enum-known-s
-    enum-told
-    number-stop-requires
-    returns
-    slice-aggregate-take-field
-    most-of-requires
-    take-field-requires
-    enum-known-p
-    enum-told-2
-    number-stop-requires-2
-    returns-2
-    cast-t17
-    cast-t18
-    returns-3)
+    (tie.spec (λ c κs. search needs) (λ c. search needs) (λ c. search needs) (λ c κs. search needs) returns (λ c. search needs) (λ c κs. search needs)
+    take-field-requires (λ c. search needs) (λ c. search needs) (λ c κs. search needs) returns-2 cast-t17 cast-t18 returns-3)

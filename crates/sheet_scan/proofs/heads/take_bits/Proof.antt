@@ -26,17 +26,8 @@ larger : (a b m : ℕ) → a < 3 → b < 3 → m ≡ max a b → m ≤ 3
 larger a b m l-a l-b e = omega arith
 
 -- src/heads.rt:73:20
-slice-aggregate-shared : tie.Need-slice-aggregate-shared
-slice-aggregate-shared c = search needs
-
 -- src/heads.rt:73:9
-shared-requires : tie.Need-shared-requires
-shared-requires c κs = search needs
-
 -- src/heads.rt:75:33
-add-t11 : tie.Need-add-t11
-add-t11 c = search needs
-
 -- src/heads.rt:75:9
 returns : tie.Need-returns
 returns c = value-found (bitsLine _) 16 _ _ _ (inl refl) (rw sixteen (c .before .shared .ensures)) (rw sixteen (c .if1 .taken))
@@ -55,25 +46,13 @@ returns-2 c =
     rw (not-true (c .before .before .before .before .before .args .wide) (c .if2 .taken)) (sixteen-stopped _ _ _ e-a l-a)
 
 -- src/heads.rt:80:20
-slice-aggregate-shared-2 : tie.Need-slice-aggregate-shared-2
-slice-aggregate-shared-2 c = search needs
-
 -- src/heads.rt:80:9
-shared-requires-2 : tie.Need-shared-requires-2
-shared-requires-2 c κs = search needs
-
 -- src/heads.rt:82:33
-add-t15 : tie.Need-add-t15
-add-t15 c = search needs
-
 -- src/heads.rt:82:9
 returns-3 : tie.Need-returns-3
 returns-3 c = value-found (bitsLine _) 32 _ _ _ (inr (not-false _ (c .before .before .before .if2 .left), refl)) (rw thirty-two (c .before .shared2 .ensures)) (rw thirty-two (c .if3 .taken))
 
 -- src/heads.rt:84:22
-further-requires : tie.Need-further-requires
-further-requires c κs = search needs
-
 -- src/heads.rt:84:17
 add-t17 : tie.Need-add-t17
 add-t17 c =
@@ -96,17 +75,5 @@ returns-4 c =
 pub take-bits-spec : {M : Type 1} → statement M
 take-bits-spec =
     tie.close
-    (tie.spec
-    slice-aggregate-shared
-    shared-requires
-    add-t11
-    returns
-    add-t12
-    returns-2
-    slice-aggregate-shared-2
-    shared-requires-2
-    add-t15
-    returns-3
-    further-requires
-    add-t17
-    returns-4)
+    (tie.spec (λ c. search needs) (λ c κs. search needs) (λ c. search needs) returns add-t12 returns-2 (λ c. search needs) (λ c κs. search needs)
+    (λ c. search needs) returns-3 (λ c κs. search needs) add-t17 returns-4)

@@ -11,21 +11,9 @@ use Rattle.sheet_scan.proofs.StoreLaws.{store-no-key, store-scans}
 use native.Mathlib.Omega.{arith}
 
 -- src/heads.rt:85:20
-slice-aggregate-take-key : tie.Need-slice-aggregate-take-key
-slice-aggregate-take-key c = search needs
-
 -- src/heads.rt:85:11
-take-key-requires : tie.Need-take-key-requires
-take-key-requires c κs = search needs
-
 -- src/heads.rt:86:21
-enum-known-stop : tie.Need-enum-known-stop
-enum-known-stop c = search needs
-
 -- src/heads.rt:87:21
-enum-known-next : tie.Need-enum-known-next
-enum-known-next c = search needs
-
 -- src/heads.rt:87:30
 take-bits-requires : tie.Need-take-bits-requires
 take-bits-requires c κs =
@@ -47,11 +35,4 @@ returns-2 c =
 pub take-store-spec : {M : Type 1} → statement M
 take-store-spec =
     tie.close
-    (tie.spec
-    slice-aggregate-take-key
-    take-key-requires
-    enum-known-stop
-    enum-known-next
-    take-bits-requires
-    returns
-    returns-2)
+    (tie.spec (λ c. search needs) (λ c κs. search needs) (λ c. search needs) (λ c. search needs) take-bits-requires returns returns-2)

@@ -18,9 +18,6 @@ use Rattle.sheet_scan.proofs.NameLaws.{shared-on, newline-there, newlin
 use native.Mathlib.Omega.{arith}
 
 -- src/names.rt:32:9
-shared-requires : tie.Need-shared-requires
-shared-requires c κs = search needs
-
 -- src/names.rt:34:9
 returns : tie.Need-returns
 returns c =
@@ -47,13 +44,7 @@ returns-2 c =
     sym (shared-on (a .args .text .now) (a .args .name .now) newline (a .args .at) _ e (search needs) ∙ ap (λ (k : ℕ). c .before .before .shared .result + k) (newline-past (a .args .text .now) (a .args .at + c .before .before .shared .result) (search needs)) ∙ add-zero (c .before .before .shared .result))
 
 -- src/names.rt:40:8
-shared-slice-read-if3 : tie.Need-shared-slice-read-if3
-shared-slice-read-if3 c = search needs
-
 -- src/names.rt:41:16
-add-result : tie.Need-add-result
-add-result c = search needs
-
 -- src/names.rt:41:9
 returns-3 : tie.Need-returns-3
 returns-3 c =
@@ -71,12 +62,4 @@ returns-4 c =
 pub shared-line-spec : {M : Type 1} → statement M
 shared-line-spec =
     tie.close
-    (tie.spec
-    shared-requires
-    returns
-    add-end
-    returns-2
-    shared-slice-read-if3
-    add-result
-    returns-3
-    returns-4)
+    (tie.spec (λ c κs. search needs) returns add-end returns-2 (λ c. search needs) (λ c. search needs) returns-3 returns-4)

@@ -12,21 +12,9 @@ use Rattle.sheet_scan.proofs.NameLaws.{kind-no-key, kind-scans}
 use native.Mathlib.Omega.{arith}
 
 -- src/names.rt:53:20
-slice-aggregate-take-key : tie.Need-slice-aggregate-take-key
-slice-aggregate-take-key c = search needs
-
 -- src/names.rt:53:11
-take-key-requires : tie.Need-take-key-requires
-take-key-requires c κs = search needs
-
 -- src/names.rt:54:21
-enum-known-stop : tie.Need-enum-known-stop
-enum-known-stop c = search needs
-
 -- src/names.rt:55:21
-enum-known-next : tie.Need-enum-known-next
-enum-known-next c = search needs
-
 -- src/names.rt:55:30
 take-name-requires : tie.Need-take-name-requires
 take-name-requires c κs =
@@ -49,11 +37,4 @@ returns-2 c =
 pub take-kind-spec : {M : Type 1} → statement M
 take-kind-spec =
     tie.close
-    (tie.spec
-    slice-aggregate-take-key
-    take-key-requires
-    enum-known-stop
-    enum-known-next
-    take-name-requires
-    returns
-    returns-2)
+    (tie.spec (λ c. search needs) (λ c κs. search needs) (λ c. search needs) (λ c. search needs) take-name-requires returns returns-2)

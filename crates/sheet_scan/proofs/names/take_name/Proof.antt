@@ -25,85 +25,40 @@ below : (kind : FilterType) (t : List ℕ) (at n long : ℕ) → n ≡ common (d
 below kind t at n long e e-l other = let m = common-right (drop at t) (kindName kind ++ newline) in omega arith
 
 -- src/names.rt:29:20
-slice-aggregate-shared-line : tie.Need-slice-aggregate-shared-line
-slice-aggregate-shared-line c = search needs
-
 -- src/names.rt:29:9
-shared-line-requires : tie.Need-shared-line-requires
-shared-line-requires c κs = search needs
-
 -- src/names.rt:31:45
-add-t15 : tie.Need-add-t15
-add-t15 c = search needs
-
 -- src/names.rt:31:9
 returns : tie.Need-returns
 unfolding kindName
 returns c = name-found Box _ _ _ (c .before .shared-line .ensures) (c .if1 .taken)
 
 -- src/names.rt:33:20
-slice-aggregate-shared-line-2 : tie.Need-slice-aggregate-shared-line-2
-slice-aggregate-shared-line-2 c = search needs
-
 -- src/names.rt:33:9
-shared-line-requires-2 : tie.Need-shared-line-requires-2
-shared-line-requires-2 c κs = search needs
-
 -- src/names.rt:35:50
-add-t19 : tie.Need-add-t19
-add-t19 c = search needs
-
 -- src/names.rt:35:9
 returns-2 : tie.Need-returns-2
 unfolding kindName
 returns-2 c = name-found Bilinear _ _ _ (c .before .shared-line2 .ensures) (c .if2 .taken)
 
 -- src/names.rt:37:20
-slice-aggregate-shared-line-3 : tie.Need-slice-aggregate-shared-line-3
-slice-aggregate-shared-line-3 c = search needs
-
 -- src/names.rt:37:9
-shared-line-requires-3 : tie.Need-shared-line-requires-3
-shared-line-requires-3 c κs = search needs
-
 -- src/names.rt:39:52
-add-t23 : tie.Need-add-t23
-add-t23 c = search needs
-
 -- src/names.rt:39:9
 returns-3 : tie.Need-returns-3
 unfolding kindName
 returns-3 c = name-found CatmullRom _ _ _ (c .before .shared-line3 .ensures) (c .if3 .taken)
 
 -- src/names.rt:41:20
-slice-aggregate-shared-line-4 : tie.Need-slice-aggregate-shared-line-4
-slice-aggregate-shared-line-4 c = search needs
-
 -- src/names.rt:41:9
-shared-line-requires-4 : tie.Need-shared-line-requires-4
-shared-line-requires-4 c κs = search needs
-
 -- src/names.rt:43:50
-add-t27 : tie.Need-add-t27
-add-t27 c = search needs
-
 -- src/names.rt:43:9
 returns-4 : tie.Need-returns-4
 unfolding kindName
 returns-4 c = name-found Mitchell _ _ _ (c .before .shared-line4 .ensures) (c .if4 .taken)
 
 -- src/names.rt:45:31
-further-requires : tie.Need-further-requires
-further-requires c κs = search needs
-
 -- src/names.rt:45:46
-further-requires-2 : tie.Need-further-requires-2
-further-requires-2 c κs = search needs
-
 -- src/names.rt:45:23
-further-requires-3 : tie.Need-further-requires-3
-further-requires-3 c κs = search needs
-
 -- src/names.rt:45:18
 add-t31 : tie.Need-add-t31
 add-t31 c =
@@ -147,25 +102,6 @@ returns-5 c =
 pub take-name-spec : {M : Type 1} → statement M
 take-name-spec =
     tie.close
-    (tie.spec
-    slice-aggregate-shared-line
-    shared-line-requires
-    add-t15
-    returns
-    slice-aggregate-shared-line-2
-    shared-line-requires-2
-    add-t19
-    returns-2
-    slice-aggregate-shared-line-3
-    shared-line-requires-3
-    add-t23
-    returns-3
-    slice-aggregate-shared-line-4
-    shared-line-requires-4
-    add-t27
-    returns-4
-    further-requires
-    further-requires-2
-    further-requires-3
-    add-t31
-    returns-5)
+    (tie.spec (λ c. search needs) (λ c κs. search needs) (λ c. search needs) returns (λ c. search needs) (λ c κs. search needs) (λ c. search needs) returns-2
+    (λ c. search needs) (λ c κs. search needs) (λ c. search needs) returns-3 (λ c. search needs) (λ c κs. search needs) (λ c. search needs) returns-4
+    (λ c κs. search needs) (λ c κs. search needs) (λ c κs. search needs) add-t31 returns-5)

@@ -15,21 +15,9 @@ use Rattle.sheet_scan.proofs.WholeLaws.{limit-least, limit-most, rest-n
 use native.Mathlib.Omega.{arith}
 
 -- src/rest.rt:41:9
-scan-store-requires : tie.Need-scan-store-requires
-scan-store-requires c κs = search needs
-
 -- src/rest.rt:42:25
-enum-known-s : tie.Need-enum-known-s
-enum-known-s c = search needs
-
 -- src/rest.rt:43:30
-enum-told : tie.Need-enum-told
-enum-told c = search needs
-
 -- src/rest.rt:43:30
-store-stop-requires : tie.Need-store-stop-requires
-store-stop-requires c κs = search needs
-
 -- src/rest.rt:43:9
 returns : tie.Need-returns
 returns c =
@@ -39,9 +27,6 @@ returns c =
     rw (c .store-stop .ensures ∙ ap storePlace e) (rest-no-store _ (a .args .v) (a .pre .0) s)
 
 -- src/rest.rt:45:9
-limit-of-requires : tie.Need-limit-of-requires
-limit-of-requires c κs = search needs
-
 -- src/rest.rt:46:11
 scan-windows-requires : tie.Need-scan-windows-requires
 scan-windows-requires c κs =
@@ -51,13 +36,7 @@ scan-windows-requires c κs =
     (a .pre .0 .0 .0, a .pre .0 .2 .0, rw m (limit-least (c .before .before .s .given .0 .0 .bits)), rw m (limit-most (c .before .before .s .given .0 .0 .bits)), found-within _ (a .pre .1) f)
 
 -- src/rest.rt:47:21
-enum-known-stop : tie.Need-enum-known-stop
-enum-known-stop c = search needs
-
 -- src/rest.rt:48:21
-enum-known-next : tie.Need-enum-known-next
-enum-known-next c = search needs
-
 -- src/rest.rt:37:1
 returns-2 : tie.Need-returns-2
 returns-2 c =
@@ -76,15 +55,5 @@ returns-3 c =
 pub scan-rest-spec : {M : Type 1} → statement M
 scan-rest-spec =
     tie.close
-    (tie.spec
-    scan-store-requires
-    enum-known-s
-    enum-told
-    store-stop-requires
-    returns
-    limit-of-requires
-    scan-windows-requires
-    enum-known-stop
-    enum-known-next
-    returns-2
-    returns-3)
+    (tie.spec (λ c κs. search needs) (λ c. search needs) (λ c. search needs) (λ c κs. search needs) returns (λ c κs. search needs) scan-windows-requires
+    (λ c. search needs) (λ c. search needs) returns-2 returns-3)

@@ -9,9 +9,6 @@ use native.Mathlib.Numerals.{add-one}
 use native.Mathlib.Omega.{arith}
 
 -- src/rows.rt:35:8
-add-if1 : tie.Need-add-if1
-add-if1 c = search needs
-
 -- src/rows.rt:36:9
 returns : tie.Need-returns
 returns c = rw (eq-eqb _ _ (rw add-one at (c .if1 .taken)))
@@ -21,4 +18,4 @@ returns-2 : tie.Need-returns-2
 returns-2 c = rw (ne-eqb _ _ (λ e. c .if1 .left (rw add-one e)))
 
 pub item-end-spec : {M : Type 1} → statement M
-item-end-spec = tie.close (tie.spec add-if1 returns returns-2)
+item-end-spec = tie.close (tie.spec (λ c. search needs) returns returns-2)

@@ -28,9 +28,6 @@ loop-holds : tie.Need-loop-holds Inv-loop μ-loop
 loop-holds c = run-none _ _ _ _ (c .before .pre .2)
 
 -- src/rows.rt:49:36
-item-end-requires : tie.Need-item-end-requires Inv-loop μ-loop
-item-end-requires c κs = search needs
-
 -- src/rows.rt:49:13
 take-signed-requires : tie.Need-take-signed-requires Inv-loop μ-loop
 take-signed-requires c κs =
@@ -39,17 +36,8 @@ take-signed-requires c κs =
     (pre .0, omega arith, subst NoDigit (sym (c .item-end .ensures)) (item-plain (c .before .before .before .before .args .size) (c .before .before .loop .j)), c .before .before .loop .inv .within)
 
 -- src/rows.rt:50:30
-enum-known-s : tie.Need-enum-known-s Inv-loop μ-loop
-enum-known-s c = search needs
-
 -- src/rows.rt:51:32
-enum-told : tie.Need-enum-told Inv-loop μ-loop
-enum-told c = search needs
-
 -- src/rows.rt:51:32
-signed-stop-requires : tie.Need-signed-stop-requires Inv-loop μ-loop
-signed-stop-requires c κs = search needs
-
 -- src/rows.rt:51:13
 returns : tie.Need-returns Inv-loop μ-loop
 returns c =
@@ -60,13 +48,7 @@ returns c =
     (run-stopped _ _ _ _ (apart-item (a .args .limit) (a .args .size) (a .pre .1)) (item-zero (a .args .limit) (a .args .size) (a .pre .0)) (c .before .before .before .before .before .before .loop .inv) (search needs) s)
 
 -- src/rows.rt:54:9
-add-j : tie.Need-add-j Inv-loop μ-loop
-add-j c = search needs
-
 -- src/rows.rt:48:5
-loop-less : tie.Need-loop-less Inv-loop μ-loop
-loop-less c = search needs
-
 -- src/rows.rt:48:5
 loop-again : tie.Need-loop-again Inv-loop μ-loop
 loop-again c =
@@ -80,17 +62,5 @@ returns-2 c = (c .before .loop .inv .values, run-found _ _ _ _ (c .before .loop 
 pub scan-weights-spec : {M : Type 1} → statement M
 scan-weights-spec =
     tie.close
-    (tie.spec
-    Inv-loop
-    μ-loop
-    loop-holds
-    item-end-requires
-    take-signed-requires
-    enum-known-s
-    enum-told
-    signed-stop-requires
-    returns
-    add-j
-    loop-less
-    loop-again
-    returns-2)
+    (tie.spec Inv-loop μ-loop loop-holds (λ c κs. search needs) take-signed-requires (λ c. search needs) (λ c. search needs) (λ c κs. search needs) returns
+    (λ c. search needs) (λ c. search needs) loop-again returns-2)

@@ -12,17 +12,8 @@ use Rattle.sheet_scan.proofs.OpenLaws.{window-no-open, window-passes}
 use native.Mathlib.Omega.{arith}
 
 -- src/rows.rt:104:11
-take-open-requires : tie.Need-take-open-requires
-take-open-requires c κs = search needs
-
 -- src/rows.rt:105:24
-enum-known-stop : tie.Need-enum-known-stop
-enum-known-stop c = search needs
-
 -- src/rows.rt:106:25
-enum-known-size : tie.Need-enum-known-size
-enum-known-size c = search needs
-
 -- src/rows.rt:106:40
 scan-weights-requires : tie.Need-scan-weights-requires
 scan-weights-requires c κs =
@@ -47,10 +38,4 @@ returns-2 c =
 pub scan-window-spec : {M : Type 1} → statement M
 scan-window-spec =
     tie.close
-    (tie.spec
-    take-open-requires
-    enum-known-stop
-    enum-known-size
-    scan-weights-requires
-    returns
-    returns-2)
+    (tie.spec (λ c κs. search needs) (λ c. search needs) (λ c. search needs) scan-weights-requires returns returns-2)

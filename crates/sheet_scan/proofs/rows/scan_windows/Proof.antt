@@ -31,17 +31,8 @@ scan-window-requires c κs =
     (pre .0, pre .1, pre .2, pre .3, c .before .loop .inv .within)
 
 -- src/rows.rt:126:25
-enum-known-line : tie.Need-enum-known-line Inv-loop μ-loop
-enum-known-line c = search needs
-
 -- src/rows.rt:127:32
-enum-told : tie.Need-enum-told Inv-loop μ-loop
-enum-told c = search needs
-
 -- src/rows.rt:127:32
-place-stop-requires : tie.Need-place-stop-requires Inv-loop μ-loop
-place-stop-requires c κs = search needs
-
 -- src/rows.rt:127:13
 returns : tie.Need-returns Inv-loop μ-loop
 returns c =
@@ -56,13 +47,7 @@ returns c =
     (run-stopped _ _ _ _ (λ i. apart-window lines window limit i small (a .pre .3)) (λ i. window-one lines window limit i (a .pre .0) (a .pre .1) (a .pre .2)) (c .before .before .before .before .before .loop .inv) (search needs) s)
 
 -- src/rows.rt:130:9
-add-i : tie.Need-add-i Inv-loop μ-loop
-add-i c = search needs
-
 -- src/rows.rt:124:5
-loop-less : tie.Need-loop-less Inv-loop μ-loop
-loop-less c = search needs
-
 -- src/rows.rt:124:5
 loop-again : tie.Need-loop-again Inv-loop μ-loop
 loop-again c =
@@ -76,16 +61,5 @@ returns-2 c = (c .before .loop .inv .values, run-found _ _ _ _ (c .before .loop 
 pub scan-windows-spec : {M : Type 1} → statement M
 scan-windows-spec =
     tie.close
-    (tie.spec
-    Inv-loop
-    μ-loop
-    loop-holds
-    scan-window-requires
-    enum-known-line
-    enum-told
-    place-stop-requires
-    returns
-    add-i
-    loop-less
-    loop-again
-    returns-2)
+    (tie.spec Inv-loop μ-loop loop-holds scan-window-requires (λ c. search needs) (λ c. search needs) (λ c κs. search needs) returns (λ c. search needs)
+    (λ c. search needs) loop-again returns-2)

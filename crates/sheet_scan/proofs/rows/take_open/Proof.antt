@@ -16,25 +16,10 @@ use Rattle.sheet_scan.proofs.OpenLaws.{plain-equals, plain-comma, plain
 use native.Mathlib.Omega.{arith}
 
 -- src/rows.rt:84:26
-slice-aggregate-take-field : tie.Need-slice-aggregate-take-field
-slice-aggregate-take-field c = search needs
-
 -- src/rows.rt:84:9
-take-field-requires : tie.Need-take-field-requires
-take-field-requires c κs = search needs
-
 -- src/rows.rt:85:25
-enum-known-key : tie.Need-enum-known-key
-enum-known-key c = search needs
-
 -- src/rows.rt:86:31
-enum-told : tie.Need-enum-told
-enum-told c = search needs
-
 -- src/rows.rt:86:31
-number-stop-requires : tie.Need-number-stop-requires
-number-stop-requires c κs = search needs
-
 -- src/rows.rt:86:9
 returns : tie.Need-returns
 returns c =
@@ -44,9 +29,6 @@ returns c =
     rw (c .number-stop .ensures ∙ ap placeOf e) (open-no-number (a .args .lines) (a .args .window) (a .args .i) (a .pre .0) (a .pre .1) s)
 
 -- src/rows.rt:88:32
-sub-take-number : tie.Need-sub-take-number
-sub-take-number c = search needs
-
 -- src/rows.rt:88:9
 take-number-requires : tie.Need-take-number-requires
 take-number-requires c κs =
@@ -55,17 +37,8 @@ take-number-requires c κs =
     (omega arith, search needs, plain-comma, found-within _ (a .pre .2) f)
 
 -- src/rows.rt:89:22
-enum-known-first : tie.Need-enum-known-first
-enum-known-first c = search needs
-
 -- src/rows.rt:90:31
-enum-told-2 : tie.Need-enum-told-2
-enum-told-2 c = search needs
-
 -- src/rows.rt:90:31
-number-stop-requires-2 : tie.Need-number-stop-requires-2
-number-stop-requires-2 c κs = search needs
-
 -- src/rows.rt:90:9
 returns-2 : tie.Need-returns-2
 returns-2 c =
@@ -84,9 +57,6 @@ sub-lesser c =
     omega arith
 
 -- src/rows.rt:92:32
-lesser-requires : tie.Need-lesser-requires
-lesser-requires c κs = search needs
-
 -- src/rows.rt:92:9
 take-number-requires-2 : tie.Need-take-number-requires-2
 take-number-requires-2 c κs =
@@ -102,17 +72,8 @@ take-number-requires-2 c κs =
     (rw m (omega arith), rw m (omega arith), plain-colon, found-within _ (found-within _ (a .pre .2) f) g)
 
 -- src/rows.rt:93:22
-enum-known-count : tie.Need-enum-known-count
-enum-known-count c = search needs
-
 -- src/rows.rt:94:31
-enum-told-3 : tie.Need-enum-told-3
-enum-told-3 c = search needs
-
 -- src/rows.rt:94:31
-number-stop-requires-3 : tie.Need-number-stop-requires-3
-number-stop-requires-3 c κs = search needs
-
 -- src/rows.rt:94:9
 returns-3 : tie.Need-returns-3
 returns-3 c =
@@ -149,26 +110,6 @@ returns-4 c =
 pub take-open-spec : {M : Type 1} → statement M
 take-open-spec =
     tie.close
-    (tie.spec
-    slice-aggregate-take-field
-    take-field-requires
-    enum-known-key
-    enum-told
-    number-stop-requires
-    returns
-    sub-take-number
-    take-number-requires
-    enum-known-first
-    enum-told-2
-    number-stop-requires-2
-    returns-2
-    sub-lesser
-    lesser-requires
-    take-number-requires-2
-    enum-known-count
-    enum-told-3
-    number-stop-requires-3
-    returns-3
-    cast-t24
-    cast-t25
-    returns-4)
+    (tie.spec (λ c. search needs) (λ c κs. search needs) (λ c. search needs) (λ c. search needs) (λ c κs. search needs) returns (λ c. search needs)
+    take-number-requires (λ c. search needs) (λ c. search needs) (λ c κs. search needs) returns-2 sub-lesser (λ c κs. search needs) take-number-requires-2
+    (λ c. search needs) (λ c. search needs) (λ c κs. search needs) returns-3 cast-t24 cast-t25 returns-4)

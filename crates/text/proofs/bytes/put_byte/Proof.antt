@@ -7,20 +7,8 @@ use Rattle.text.specs.Text.{reached}
 use Rattle.text.proofs.bytes.put_byte.Statement.{statement}
 use Rattle.text.proofs.bytes.put_byte.Tie as tie
 
-next-requires : tie.Need-next-requires
-next-requires c κs = search needs
-
 returns : tie.Need-returns
 returns c = (c .next .ensures, sym (set-out _ _ _ (c .before .if1 .taken)))
-
-slice-write-out : tie.Need-slice-write-out
-slice-write-out c = search needs
-
-add-result : tie.Need-add-result
-add-result c = search needs
-
-same-length : tie.Need-same-length
-same-length c = search needs
 
 returns-2 : tie.Need-returns-2
 unfolding reached
@@ -29,4 +17,4 @@ returns-2 c = (omega arith, refl)
 pub put-byte-spec : {M : Type 1} → statement M
 put-byte-spec =
     tie.close
-    (tie.spec next-requires returns slice-write-out add-result same-length returns-2)
+    (tie.spec (λ c κs. search needs) returns (λ c. search needs) (λ c. search needs) (λ c. search needs) returns-2)

@@ -17,20 +17,8 @@ abbrev μ-loop : tie.MeasureT-loop
 loop-holds : tie.Need-loop-holds Inv-loop μ-loop
 loop-holds c = (search needs, rw div-one)
 
-add-k : tie.Need-add-k Inv-loop μ-loop
-add-k c = search needs
-
-loop-less : tie.Need-loop-less Inv-loop μ-loop
-loop-less c = search needs
-
 loop-again : tie.Need-loop-again Inv-loop μ-loop
 loop-again c = (search needs, rw (c .before .loop .inv .1, div-div-eq-div-mul, add-one, pow-suc))
-
-add-result : tie.Need-add-result Inv-loop μ-loop
-add-result c = search needs
-
-cast-result : tie.Need-cast-result Inv-loop μ-loop
-cast-result c = search needs
 
 returns : tie.Need-returns Inv-loop μ-loop
 returns c =
@@ -40,4 +28,4 @@ returns c =
 pub digit-at-spec : {M : Type 1} → statement M
 digit-at-spec =
     tie.close
-    (tie.spec Inv-loop μ-loop loop-holds add-k loop-less loop-again add-result cast-result returns)
+    (tie.spec Inv-loop μ-loop loop-holds (λ c. search needs) (λ c. search needs) loop-again (λ c. search needs) (λ c. search needs) returns)

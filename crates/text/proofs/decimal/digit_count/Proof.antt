@@ -36,12 +36,6 @@ returns c =
     let zero : n / 10 ^ at .loop .k ≡ 0 = sym (at .loop .inv .1) ∙ c .if1 .taken in
     sym (at .loop .inv .2 ∙ first-stop (gone n) (at .loop .k) (20 - at .loop .k) (omega arith) (eq-eqb (n / 10 ^ at .loop .k) 0 zero))
 
-add-k : tie.Need-add-k Inv-loop μ-loop
-add-k c = search needs
-
-loop-less : tie.Need-loop-less Inv-loop μ-loop
-loop-less c = search needs
-
 loop-again : tie.Need-loop-again Inv-loop μ-loop
 unfolding gone
 loop-again c =
@@ -60,4 +54,4 @@ returns-2 c =
 
 pub digit-count-spec : {M : Type 1} → statement M
 digit-count-spec =
-    tie.close (tie.spec Inv-loop μ-loop loop-holds returns add-k loop-less loop-again returns-2)
+    tie.close (tie.spec Inv-loop μ-loop loop-holds returns (λ c. search needs) (λ c. search needs) loop-again returns-2)

@@ -6,15 +6,6 @@ use Rattle.text.specs.Text.{fieldText}
 use Rattle.text.proofs.decimal.put_field.Statement.{statement}
 use Rattle.text.proofs.decimal.put_field.Tie as tie
 
-put-requires : tie.Need-put-requires
-put-requires c κs = search needs
-
-put-number-requires : tie.Need-put-number-requires
-put-number-requires c κs = search needs
-
-same-length : tie.Need-same-length
-same-length c = search needs
-
 returns : tie.Need-returns
 unfolding fieldText
 returns c =
@@ -24,4 +15,4 @@ returns c =
     (l2 .place, l2 .is)
 
 pub put-field-spec : {M : Type 1} → statement M
-put-field-spec = tie.close (tie.spec put-requires put-number-requires same-length returns)
+put-field-spec = tie.close (tie.spec (λ c κs. search needs) (λ c κs. search needs) (λ c. search needs) returns)

@@ -5,15 +5,6 @@ use Rattle.text.specs.Text.{fieldText, lineText}
 use Rattle.text.proofs.decimal.put_line.Statement.{statement}
 use Rattle.text.proofs.decimal.put_line.Tie as tie
 
-put-field-requires : tie.Need-put-field-requires
-put-field-requires c κs = search needs
-
-put-byte-requires : tie.Need-put-byte-requires
-put-byte-requires c κs = search needs
-
-same-length : tie.Need-same-length
-same-length c = search needs
-
 returns : tie.Need-returns
 unfolding lineText
 returns c =
@@ -23,4 +14,4 @@ returns c =
     (l2 .place, l2 .is)
 
 pub put-line-spec : {M : Type 1} → statement M
-put-line-spec = tie.close (tie.spec put-field-requires put-byte-requires same-length returns)
+put-line-spec = tie.close (tie.spec (λ c κs. search needs) (λ c κs. search needs) (λ c. search needs) returns)

@@ -16,29 +16,8 @@ Inv-loop n at out₀ k p₀ i₀ out p i = (i ≤ k) × Laid at (tab 0 i (digitA
 abbrev μ-loop : tie.MeasureT-loop
 μ-loop n at out₀ k p₀ i₀ out p i = k - i
 
-digit-count-requires : tie.Need-digit-count-requires Inv-loop μ-loop
-digit-count-requires c κs = search needs
-
 loop-holds : tie.Need-loop-holds Inv-loop μ-loop
 loop-holds c = (search needs, laid-none _ _ (search needs) (search needs))
-
-sub-digit-at : tie.Need-sub-digit-at Inv-loop μ-loop
-sub-digit-at c = search needs
-
-sub-digit-at-2 : tie.Need-sub-digit-at-2 Inv-loop μ-loop
-sub-digit-at-2 c = search needs
-
-digit-at-requires : tie.Need-digit-at-requires Inv-loop μ-loop
-digit-at-requires c κs = search needs
-
-put-byte-requires : tie.Need-put-byte-requires Inv-loop μ-loop
-put-byte-requires c κs = search needs
-
-add-i : tie.Need-add-i Inv-loop μ-loop
-add-i c = search needs
-
-loop-less : tie.Need-loop-less Inv-loop μ-loop
-loop-less c = search needs
 
 loop-again : tie.Need-loop-again Inv-loop μ-loop
 loop-again c =
@@ -63,17 +42,5 @@ returns c =
 pub put-number-spec : {M : Type 1} → statement M
 put-number-spec =
     tie.close
-    (tie.spec
-    Inv-loop
-    μ-loop
-    digit-count-requires
-    loop-holds
-    sub-digit-at
-    sub-digit-at-2
-    digit-at-requires
-    put-byte-requires
-    add-i
-    loop-less
-    loop-again
-    same-length
-    returns)
+    (tie.spec Inv-loop μ-loop (λ c κs. search needs) loop-holds (λ c. search needs) (λ c. search needs) (λ c κs. search needs) (λ c κs. search needs)
+    (λ c. search needs) (λ c. search needs) loop-again same-length returns)

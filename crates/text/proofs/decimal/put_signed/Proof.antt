@@ -34,18 +34,6 @@ plain c =
     let start = c .before .before .before in
     above (start .args .v) (c .before .size .result) (rw (toZ-ofZ (start .fits .v)) at (c .if1 .left)) (c .before .size .ensures ∙ ap natAbs (toZ-ofZ (start .fits .v)))
 
-size-requires : tie.Need-size-requires
-size-requires c κs = search needs
-
-put-byte-requires : tie.Need-put-byte-requires
-put-byte-requires c κs = search needs
-
-put-number-requires : tie.Need-put-number-requires
-put-number-requires c κs = search needs
-
-same-length : tie.Need-same-length
-same-length c = search needs
-
 returns : tie.Need-returns
 returns c =
     let split = c .before .before .before .before .before .before .before .before in
@@ -54,24 +42,11 @@ returns c =
     let l2 = laid-then (decimal (split .before .size .result)) l1 (c .before .before .put-number .ensures .0) (c .before .before .put-number .ensures .1) in
     rw (minus split) (l2 .place, l2 .is)
 
-put-number-requires-2 : tie.Need-put-number-requires-2
-put-number-requires-2 c κs = search needs
-
-same-length-2 : tie.Need-same-length-2
-same-length-2 c = search needs
-
 returns-2 : tie.Need-returns-2
 returns-2 c = rw (plain (c .before .before .before .before)) (c .before .before .put-number2 .ensures)
 
 pub put-signed-spec : {M : Type 1} → statement M
 put-signed-spec =
     tie.close
-    (tie.spec
-    size-requires
-    put-byte-requires
-    put-number-requires
-    same-length
-    returns
-    put-number-requires-2
-    same-length-2
+    (tie.spec (λ c κs. search needs) (λ c κs. search needs) (λ c κs. search needs) (λ c. search needs) returns (λ c κs. search needs) (λ c. search needs)
     returns-2)

@@ -31,14 +31,8 @@ abbrev μ-loop : tie.MeasureT-loop
 room : (L j : ℕ) → j < L / 16 * 16 → j % 16 ≡ 0 → j + 16 ≤ L
 room L j h e = omega arith
 
-mul-full : tie.Need-mul-full Inv-loop μ-loop
-mul-full c = omega arith
-
 loop-holds : tie.Need-loop-holds Inv-loop μ-loop
 loop-holds c = let q = c .before .before .before .pre .0 in (omega arith, refl, (λ x h. absurd (not-suc-le-zero h)), refl, q .0, q .1, (λ z. z), (λ z x h. absurd (not-suc-le-zero h)))
-
-add-sums16 : tie.Need-add-sums16 Inv-loop μ-loop
-add-sums16 c = omega arith
 
 sums16-requires : tie.Need-sums16-requires Inv-loop μ-loop
 sums16-requires c κs =
@@ -61,12 +55,6 @@ put16-requires c κs =
     let l = c .before .before .before .before .before in
     let a = l .before .before .before .before .args in
     omega (arith, l .loop .inv .1, room (length (a .out .now)) (l .loop .j) (c .before .before .before .before .loop-test .taken) (l .loop .inv .3))
-
-add-j : tie.Need-add-j Inv-loop μ-loop
-add-j c = omega arith
-
-loop-less : tie.Need-loop-less Inv-loop μ-loop
-loop-less c = omega arith
 
 loop-again : tie.Need-loop-again Inv-loop μ-loop
 loop-again c =
@@ -108,9 +96,6 @@ tail-requires c κs =
     let q = l .before .before .before .before .pre in
     (rw (l .loop .inv .1) (q .1 .0), (omega arith, omega arith))
 
-same-length : tie.Need-same-length Inv-loop μ-loop
-same-length c = omega arith
-
 returns : tie.Need-returns Inv-loop μ-loop
 returns c =
     let l = c .before .before .before .before .before in
@@ -135,19 +120,5 @@ returns c =
 pub fill-spec : {M : Type 1} → statement M
 fill-spec =
     tie.close
-    (tie.spec
-    Inv-loop
-    μ-loop
-    mul-full
-    loop-holds
-    add-sums16
-    sums16-requires
-    narrow16-requires
-    sixteen-requires
-    put16-requires
-    add-j
-    loop-less
-    loop-again
-    tail-requires
-    same-length
-    returns)
+    (tie.spec Inv-loop μ-loop (λ c. omega arith) loop-holds (λ c. omega arith) sums16-requires narrow16-requires sixteen-requires put16-requires
+    (λ c. omega arith) (λ c. omega arith) loop-again tail-requires (λ c. omega arith) returns)

@@ -22,26 +22,8 @@ abbrev μ-loop : tie.MeasureT-loop
 loop-holds : tie.Need-loop-holds Inv-loop μ-loop
 loop-holds c = (omega arith, refl, (λ x h. absurd (not-suc-le-zero h)))
 
-mul-narrow : tie.Need-mul-narrow Inv-loop μ-loop
-mul-narrow c = omega arith
-
-array-read-narrow : tie.Need-array-read-narrow Inv-loop μ-loop
-array-read-narrow c = omega arith
-
 narrow-requires : tie.Need-narrow-requires Inv-loop μ-loop
 narrow-requires c κs = c .before .before .pre (c .before .loop .t) (omega arith)
-
-mul-ys : tie.Need-mul-ys Inv-loop μ-loop
-mul-ys c = omega arith
-
-array-write-ys : tie.Need-array-write-ys Inv-loop μ-loop
-array-write-ys c = omega arith
-
-add-t : tie.Need-add-t Inv-loop μ-loop
-add-t c = omega arith
-
-loop-less : tie.Need-loop-less Inv-loop μ-loop
-loop-less c = omega arith
 
 loop-again : tie.Need-loop-again Inv-loop μ-loop
 loop-again c =
@@ -58,16 +40,5 @@ returns c = λ t h. c .before .loop .inv .2 t (omega arith)
 pub narrow16-spec : {M : Type 1} → statement M
 narrow16-spec =
     tie.close
-    (tie.spec
-    Inv-loop
-    μ-loop
-    loop-holds
-    mul-narrow
-    array-read-narrow
-    narrow-requires
-    mul-ys
-    array-write-ys
-    add-t
-    loop-less
-    loop-again
-    returns)
+    (tie.spec Inv-loop μ-loop loop-holds (λ c. omega arith) (λ c. omega arith) narrow-requires (λ c. omega arith) (λ c. omega arith) (λ c. omega arith)
+    (λ c. omega arith) loop-again returns)

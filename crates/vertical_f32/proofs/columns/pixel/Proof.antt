@@ -9,9 +9,6 @@ use Rattle.vertical_f32.proofs.SumLaws.{good-one}
 use Rattle.vertical_f32.proofs.columns.pixel.Statement.{statement}
 use Rattle.vertical_f32.proofs.columns.pixel.Tie as tie
 
-sum-requires : tie.Need-sum-requires
-sum-requires c κs = search needs
-
 narrow-requires : tie.Need-narrow-requires
 narrow-requires c κs = let a = c .before .before .before .args in subst (λ (z : Float). AtMost z (2 ^ 205)) (sym (c .sum .ensures)) (good-one (a .ws .now) (a .src .now) (a .at) (a .row) (c .before .before .before .pre))
 
@@ -19,4 +16,4 @@ returns : tie.Need-returns
 returns c = c .narrow .ensures ∙ ap narrow (c .before .sum .ensures)
 
 pub pixel-spec : {M : Type 1} → statement M
-pixel-spec = tie.close (tie.spec sum-requires narrow-requires returns)
+pixel-spec = tie.close (tie.spec (λ c κs. search needs) narrow-requires returns)

@@ -25,27 +25,12 @@ abbrev μ-loop : tie.MeasureT-loop
 loop-holds : tie.Need-loop-holds Inv-loop μ-loop
 loop-holds c = (omega arith, omega arith, refl, (λ x h k. absurd (not-le-of-lt k h)), (λ x h. refl))
 
-add-pixel : tie.Need-add-pixel Inv-loop μ-loop
-add-pixel c = omega arith
-
 pixel-requires : tie.Need-pixel-requires Inv-loop μ-loop
 pixel-requires c κs =
     let l = c .before in
     let a = l .before .before .before .before .args in
     let q = l .before .before .before .before .pre in
     good-part (a .ws .now) (a .src .now) (a .at0) (a .row) (length (a .out .now)) (q .0) (l .loop .j) 1 (omega arith)
-
-mul-out : tie.Need-mul-out Inv-loop μ-loop
-mul-out c = omega arith
-
-slice-write-out : tie.Need-slice-write-out Inv-loop μ-loop
-slice-write-out c = omega arith
-
-add-j : tie.Need-add-j Inv-loop μ-loop
-add-j c = omega arith
-
-loop-less : tie.Need-loop-less Inv-loop μ-loop
-loop-less c = omega arith
 
 loop-again : tie.Need-loop-again Inv-loop μ-loop
 loop-again c =
@@ -58,25 +43,11 @@ loop-again c =
       set-low (l .loop .out) (l .loop .j) _ nan (λ (x : ℕ). getD (a .out .now) x nan) (a .from) (omega arith) (l .loop .inv .4),
     )
 
-same-length : tie.Need-same-length Inv-loop μ-loop
-same-length c = omega arith
-
 returns : tie.Need-returns Inv-loop μ-loop
 returns c = ((λ j h k. c .before .loop .inv .3 j h (omega arith)), c .before .loop .inv .4)
 
 pub tail-spec : {M : Type 1} → statement M
 tail-spec =
     tie.close
-    (tie.spec
-    Inv-loop
-    μ-loop
-    loop-holds
-    add-pixel
-    pixel-requires
-    mul-out
-    slice-write-out
-    add-j
-    loop-less
-    loop-again
-    same-length
-    returns)
+    (tie.spec Inv-loop μ-loop loop-holds (λ c. omega arith) pixel-requires (λ c. omega arith) (λ c. omega arith) (λ c. omega arith) (λ c. omega arith)
+    loop-again (λ c. omega arith) returns)

@@ -27,17 +27,11 @@ right x y F a e = subst (λ (c : Float). Right x c (toBits binary64 x)) (sym e) 
 float-to-bits-b : tie.Need-float-to-bits-b
 float-to-bits-b c = bounded-number (c .args .x) (2 ^ 205) (c .pre)
 
-mul-larger : tie.Need-mul-larger
-mul-larger c = search needs
-
 float-from-bits-larger : tie.Need-float-from-bits-larger
 float-from-bits-larger c = no-nan-code binary64 (toBits binary64 (c .args .x) % 2 ^ 63 / 2 ^ 52 * 2 ^ 52) (go (toBits binary64 (c .args .x)))
   where
     go : (b : ℕ) → b % 2 ^ 63 / 2 ^ 52 * 2 ^ 52 % 2 ^ 63 ≤ 2047 * 2 ^ 52
     go b = omega arith
-
-larger-requires : tie.Need-larger-requires
-larger-requires c κs = search needs
 
 float-to-bits-result : tie.Need-float-to-bits-result
 float-to-bits-result c = right (c .before .args .x) (c .larger .result) (held (c .before)) (c .before .pre) (c .larger .ensures) .0
@@ -68,13 +62,5 @@ returns c = let b = c .before in right (b .before .args .x) (b .larger .result) 
 pub narrow-spec : {M : Type 1} → statement M
 narrow-spec =
     tie.close
-    (tie.spec
-    float-to-bits-b
-    mul-larger
-    float-from-bits-larger
-    larger-requires
-    float-to-bits-result
-    mul-result
-    float-from-bits-result
-    float-to-float-result
-    returns)
+    (tie.spec float-to-bits-b (λ c. search needs) float-from-bits-larger (λ c κs. search needs) float-to-bits-result mul-result float-from-bits-result
+    float-to-float-result returns)

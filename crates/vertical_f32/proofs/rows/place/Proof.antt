@@ -9,36 +9,6 @@ use Rattle.lists.proofs.StoreLaws.{part-size, part-here, part-low}
 use Rattle.vertical_f32.proofs.rows.place.Statement.{statement}
 use Rattle.vertical_f32.proofs.rows.place.Tie as tie
 
-add-e : tie.Need-add-e
-add-e c = search needs
-
-add-f : tie.Need-add-f
-add-f c = search needs
-
-mul-fill : tie.Need-mul-fill
-mul-fill c = search needs
-
-sub-fill : tie.Need-sub-fill
-sub-fill c = search needs
-
-part-fill-start : tie.Need-part-fill-start
-part-fill-start c = search needs
-
-part-fill-end : tie.Need-part-fill-end
-part-fill-end c = search needs
-
-mul-fill-2 : tie.Need-mul-fill-2
-mul-fill-2 c = search needs
-
-sub-fill-2 : tie.Need-sub-fill-2
-sub-fill-2 c = search needs
-
-part-fill-start-2 : tie.Need-part-fill-start-2
-part-fill-start-2 c = search needs
-
-part-fill-end-2 : tie.Need-part-fill-end-2
-part-fill-end-2 c = search needs
-
 fill-requires : tie.Need-fill-requires
 fill-requires c κs =
     let a = c .before .before .before .before .before .args in
@@ -46,9 +16,6 @@ fill-requires c κs =
     let d : a .a + a .size - a .a ≡ a .size = omega arith in
     let lo = part-size (a .out .now) (a .o) (a .count) (q .1 .0 .2) in
     (q .0, (rw (lo, d) (q .1 .1), omega (arith, lo, q .1 .0 .0)))
-
-same-length : tie.Need-same-length
-same-length c = search needs
 
 returns : tie.Need-returns
 returns c =
@@ -70,17 +37,5 @@ returns c =
 pub place-spec : {M : Type 1} → statement M
 place-spec =
     tie.close
-    (tie.spec
-    add-e
-    add-f
-    mul-fill
-    sub-fill
-    part-fill-start
-    part-fill-end
-    mul-fill-2
-    sub-fill-2
-    part-fill-start-2
-    part-fill-end-2
-    fill-requires
-    same-length
-    returns)
+    (tie.spec (λ c. search needs) (λ c. search needs) (λ c. search needs) (λ c. search needs) (λ c. search needs) (λ c. search needs) (λ c. search needs)
+    (λ c. search needs) (λ c. search needs) (λ c. search needs) fill-requires (λ c. search needs) returns)

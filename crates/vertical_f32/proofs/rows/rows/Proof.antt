@@ -48,12 +48,6 @@ below x i n j h k = omega (arith, row-end x i n h)
 loop-holds : tie.Need-loop-holds Inv-loop μ-loop
 loop-holds c = (omega arith, refl, (λ x h. absurd (not-suc-le-zero h)), refl, start-flags 4, zero-flag (ofBits binary32 0) start-zero, (λ p q x h. absurd (not-suc-le-zero h)))
 
-mul-wide : tie.Need-mul-wide Inv-loop μ-loop
-mul-wide c = omega arith
-
-shared-slice-read-wide : tie.Need-shared-slice-read-wide Inv-loop μ-loop
-shared-slice-read-wide c = omega arith
-
 wide-requires : tie.Need-wide-requires Inv-loop μ-loop
 wide-requires c κs = tt
 
@@ -65,9 +59,6 @@ add-place c = rw (c .wide .ensures) (omega (arith, at (c .before .before .before
 
 mul-place-2 : tie.Need-mul-place-2 Inv-loop μ-loop
 mul-place-2 c = omega (arith, at (c .before .before .before) (c .before .before .loop-test .taken))
-
-mul-wide-2 : tie.Need-mul-wide-2 Inv-loop μ-loop
-mul-wide-2 c = omega arith
 
 shared-slice-read-wide-2 : tie.Need-shared-slice-read-wide-2 Inv-loop μ-loop
 shared-slice-read-wide-2 c = omega (arith, c .before .before .before .before .before .before .before .before .before .before .pre .0 .set .pairs)
@@ -99,12 +90,6 @@ rest-requires c κs =
     let l = c .before .before .before .before .before .before .before .before .before .before in
     let t = at l (c .before .before .before .before .before .before .before .before .before .loop-test .taken) in
     (l .loop .inv .5, omega (arith, t .outputs, l .loop .inv .1, c .before .before .before .place .kept .1 .1 .1 .1 .1 .1 .1 .0))
-
-add-i : tie.Need-add-i Inv-loop μ-loop
-add-i c = omega arith
-
-loop-less : tie.Need-loop-less Inv-loop μ-loop
-loop-less c = omega arith
 
 loop-again : tie.Need-loop-again Inv-loop μ-loop
 loop-again c =
@@ -141,17 +126,11 @@ loop-again c =
 all-four-requires : tie.Need-all-four-requires Inv-loop μ-loop
 all-four-requires c κs = c .before .loop .inv .4
 
-same-length : tie.Need-same-length Inv-loop μ-loop
-same-length c = omega arith
-
 returns : tie.Need-returns Inv-loop μ-loop
 returns c = let l = c .before .before .before in ((λ x h j g. l .loop .inv .2 x (omega arith) j g), (λ e. never (sym e)))
 
 is-zero-requires : tie.Need-is-zero-requires Inv-loop μ-loop
 is-zero-requires c κs = c .before .before .before .loop .inv .5
-
-same-length-2 : tie.Need-same-length-2 Inv-loop μ-loop
-same-length-2 c = omega arith
 
 returns-2 : tie.Need-returns-2 Inv-loop μ-loop
 returns-2 c =
@@ -162,30 +141,6 @@ returns-2 c =
 pub rows-spec : {M : Type 1} → statement M
 rows-spec =
     tie.close
-    (tie.spec
-    Inv-loop
-    μ-loop
-    loop-holds
-    mul-wide
-    shared-slice-read-wide
-    wide-requires
-    mul-place
-    add-place
-    mul-place-2
-    mul-wide-2
-    shared-slice-read-wide-2
-    wide-requires-2
-    mul-place-3
-    place-requires
-    mul-rest
-    mul-rest-2
-    rest-requires
-    add-i
-    loop-less
-    loop-again
-    all-four-requires
-    same-length
-    returns
-    is-zero-requires
-    same-length-2
-    returns-2)
+    (tie.spec Inv-loop μ-loop loop-holds (λ c. omega arith) (λ c. omega arith) wide-requires mul-place add-place mul-place-2 (λ c. omega arith)
+    shared-slice-read-wide-2 wide-requires-2 mul-place-3 place-requires mul-rest mul-rest-2 rest-requires (λ c. omega arith) (λ c. omega arith) loop-again
+    all-four-requires (λ c. omega arith) returns is-zero-requires (λ c. omega arith) returns-2)

@@ -37,20 +37,8 @@ mul-at c = let p = c .before .before .pre in omega (arith, p .0 .there (c .befor
 add-at : tie.Need-add-at Inv-loop μ-loop
 add-at c = let p = c .before .before .pre in omega (arith, p .0 .there (c .before .before .args .k) (p .1 .0))
 
-mul-w : tie.Need-mul-w Inv-loop μ-loop
-mul-w c = omega arith
-
-shared-slice-read-w : tie.Need-shared-slice-read-w Inv-loop μ-loop
-shared-slice-read-w c = omega arith
-
 loop-holds : tie.Need-loop-holds Inv-loop μ-loop
 loop-holds c = (omega arith, c .before .before .before .pre .1 .1 .0, (λ x h. absurd (not-suc-le-zero h)), (λ x h. refl))
-
-mul-step : tie.Need-mul-step Inv-loop μ-loop
-mul-step c = omega arith
-
-array-read-step : tie.Need-array-read-step Inv-loop μ-loop
-array-read-step c = omega arith
 
 add-step : tie.Need-add-step Inv-loop μ-loop
 add-step c =
@@ -71,18 +59,6 @@ step-requires : tie.Need-step-requires Inv-loop μ-loop
 step-requires c κs =
     let s = c .before .before .before .before .before .before in
     number (s .args .ws .now) (s .args .src .now) (s .args .at0) (s .args .row) (s .args .k) (c .before .before .loop .t) (s .pre .0) (s .pre .1 .0) (omega arith)
-
-mul-r : tie.Need-mul-r Inv-loop μ-loop
-mul-r c = omega arith
-
-array-write-r : tie.Need-array-write-r Inv-loop μ-loop
-array-write-r c = omega arith
-
-add-t : tie.Need-add-t Inv-loop μ-loop
-add-t c = omega arith
-
-loop-less : tie.Need-loop-less Inv-loop μ-loop
-loop-less c = omega arith
 
 loop-again : tie.Need-loop-again Inv-loop μ-loop
 loop-again c =
@@ -118,23 +94,5 @@ returns c = (c .before .loop .inv .1, λ t h. c .before .loop .inv .2 t (omega a
 pub add16-spec : {M : Type 1} → statement M
 add16-spec =
     tie.close
-    (tie.spec
-    Inv-loop
-    μ-loop
-    mul-at
-    add-at
-    mul-w
-    shared-slice-read-w
-    loop-holds
-    mul-step
-    array-read-step
-    add-step
-    mul-step-2
-    shared-slice-read-step
-    step-requires
-    mul-r
-    array-write-r
-    add-t
-    loop-less
-    loop-again
-    returns)
+    (tie.spec Inv-loop μ-loop mul-at add-at (λ c. omega arith) (λ c. omega arith) loop-holds (λ c. omega arith) (λ c. omega arith) add-step mul-step-2
+    shared-slice-read-step step-requires (λ c. omega arith) (λ c. omega arith) (λ c. omega arith) (λ c. omega arith) loop-again returns)

@@ -15,23 +15,14 @@ one-more r ws src at row k n s = subst (λ (z : ℕ). Sums16 r ws src at row z) 
 add16-requires : tie.Need-add16-requires
 add16-requires c κs = let s = c .before .before in (s .pre .0, (omega arith, s .pre .1 .1))
 
-add-add16 : tie.Need-add-add16
-add-add16 c = omega arith
-
 add16-requires-2 : tie.Need-add16-requires-2
 add16-requires-2 c κs = let s = c .before .before .before in (s .pre .0, (omega arith, c .add16 .ensures))
-
-add-add16-2 : tie.Need-add-add16-2
-add-add16-2 c = omega arith
 
 add16-requires-3 : tie.Need-add16-requires-3
 add16-requires-3 c κs =
     let s = c .before .before .before .before in
     let a = s .args in
     (s .pre .0, (omega arith, one-more (c .add162 .result) (a .ws .now) (a .src .now) (a .at0) (a .row) (a .k) 1 (c .add162 .ensures)))
-
-add-add16-3 : tie.Need-add-add16-3
-add-add16-3 c = omega arith
 
 add16-requires-4 : tie.Need-add16-requires-4
 add16-requires-4 c κs =
@@ -47,12 +38,4 @@ returns c =
 pub add-four16-spec : {M : Type 1} → statement M
 add-four16-spec =
     tie.close
-    (tie.spec
-    add16-requires
-    add-add16
-    add16-requires-2
-    add-add16-2
-    add16-requires-3
-    add-add16-3
-    add16-requires-4
-    returns)
+    (tie.spec add16-requires (λ c. omega arith) add16-requires-2 (λ c. omega arith) add16-requires-3 (λ c. omega arith) add16-requires-4 returns)

@@ -23,12 +23,6 @@ loop-holds c =
 add16-requires : tie.Need-add16-requires Inv-loop μ-loop
 add16-requires c κs = let l = c .before in (l .before .before .before .pre .0, (omega arith, l .loop .inv .1))
 
-add-k : tie.Need-add-k Inv-loop μ-loop
-add-k c = omega arith
-
-loop-less : tie.Need-loop-less Inv-loop μ-loop
-loop-less c = omega arith
-
 loop-again : tie.Need-loop-again Inv-loop μ-loop
 loop-again c = (omega arith, c .add16 .ensures)
 
@@ -42,4 +36,4 @@ returns c =
 pub first16-spec : {M : Type 1} → statement M
 first16-spec =
     tie.close
-    (tie.spec Inv-loop μ-loop loop-holds add16-requires add-k loop-less loop-again returns)
+    (tie.spec Inv-loop μ-loop loop-holds add16-requires (λ c. omega arith) (λ c. omega arith) loop-again returns)

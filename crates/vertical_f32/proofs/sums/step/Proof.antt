@@ -4,11 +4,8 @@ use borrow.Author.Needs.{needs}
 use Rattle.vertical_f32.proofs.sums.step.Statement.{statement}
 use Rattle.vertical_f32.proofs.sums.step.Tie as tie
 
-widen-requires : tie.Need-widen-requires
-widen-requires c κs = search needs
-
 returns : tie.Need-returns
 returns c = rw (c .widen .ensures) refl
 
 pub step-spec : {M : Type 1} → statement M
-step-spec = tie.close (tie.spec widen-requires returns)
+step-spec = tie.close (tie.spec (λ c κs. search needs) returns)

@@ -35,12 +35,6 @@ known c h =
 loop-holds : tie.Need-loop-holds Inv-loop μ-loop
 loop-holds c = let a = c .before .before .args in (omega arith, omega arith, sum-none (a .ws .now) (a .src .now) (a .at0) (a .row))
 
-mul-step : tie.Need-mul-step Inv-loop μ-loop
-mul-step c = omega arith
-
-shared-slice-read-step : tie.Need-shared-slice-read-step Inv-loop μ-loop
-shared-slice-read-step c = omega arith
-
 mul-step-2 : tie.Need-mul-step-2 Inv-loop μ-loop
 mul-step-2 c = omega (arith, there (c .before .before) (c .before .loop-test .taken))
 
@@ -52,12 +46,6 @@ step-requires c κs = known (c .before .before .before) (c .before .before .loop
 
 add-at : tie.Need-add-at Inv-loop μ-loop
 add-at c = omega (arith, there (c .before .before .before .before) (c .before .before .before .loop-test .taken))
-
-add-k : tie.Need-add-k Inv-loop μ-loop
-add-k c = omega arith
-
-loop-less : tie.Need-loop-less Inv-loop μ-loop
-loop-less c = omega arith
 
 loop-again : tie.Need-loop-again Inv-loop μ-loop
 loop-again c =
@@ -76,17 +64,5 @@ returns c =
 pub sum-spec : {M : Type 1} → statement M
 sum-spec =
     tie.close
-    (tie.spec
-    Inv-loop
-    μ-loop
-    loop-holds
-    mul-step
-    shared-slice-read-step
-    mul-step-2
-    shared-slice-read-step-2
-    step-requires
-    add-at
-    add-k
-    loop-less
-    loop-again
-    returns)
+    (tie.spec Inv-loop μ-loop loop-holds (λ c. omega arith) (λ c. omega arith) mul-step-2 shared-slice-read-step-2 step-requires add-at (λ c. omega arith)
+    (λ c. omega arith) loop-again returns)

@@ -22,12 +22,6 @@ loop-holds c = (omega arith, omega arith, c .first16 .ensures)
 add-four16-requires : tie.Need-add-four16-requires Inv-loop μ-loop
 add-four16-requires c κs = let l = c .before in (l .before .before .before .before .pre, (omega arith, l .loop .inv .2))
 
-add-k : tie.Need-add-k Inv-loop μ-loop
-add-k c = omega arith
-
-loop-less : tie.Need-loop-less Inv-loop μ-loop
-loop-less c = omega arith
-
 loop-again : tie.Need-loop-again Inv-loop μ-loop
 loop-again c = (omega arith, omega arith, c .add-four16 .ensures)
 
@@ -41,13 +35,4 @@ returns c =
 pub sums16-spec : {M : Type 1} → statement M
 sums16-spec =
     tie.close
-    (tie.spec
-    Inv-loop
-    μ-loop
-    first16-requires
-    loop-holds
-    add-four16-requires
-    add-k
-    loop-less
-    loop-again
-    returns)
+    (tie.spec Inv-loop μ-loop first16-requires loop-holds add-four16-requires (λ c. omega arith) (λ c. omega arith) loop-again returns)

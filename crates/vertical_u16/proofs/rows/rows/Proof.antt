@@ -29,9 +29,6 @@ at c h =
 mul-a : tie.Need-mul-a Inv-loop μ-loop
 mul-a c = omega (arith, at (c .before) (c .loop-test .taken))
 
-mul-wide : tie.Need-mul-wide Inv-loop μ-loop
-mul-wide c = omega arith
-
 shared-slice-read-wide : tie.Need-shared-slice-read-wide Inv-loop μ-loop
 shared-slice-read-wide c = omega (arith, c .before .before .before .before .before .before .before .pre .1 .set .pairs)
 
@@ -43,12 +40,6 @@ add-e c = rw (c .wide .ensures) (omega (arith, at (c .before .before .before) (c
 
 add-f : tie.Need-add-f Inv-loop μ-loop
 add-f c = omega (arith, at (c .before .before .before) (c .before .before .loop-test .taken), c .before .before .before .loop .inv .1)
-
-mul-wide-2 : tie.Need-mul-wide-2 Inv-loop μ-loop
-mul-wide-2 c = omega arith
-
-shared-slice-read-wide-2 : tie.Need-shared-slice-read-wide-2 Inv-loop μ-loop
-shared-slice-read-wide-2 c = omega arith
 
 wide-requires-2 : tie.Need-wide-requires-2 Inv-loop μ-loop
 wide-requires-2 c κs = tt
@@ -62,23 +53,11 @@ add-at c = rw (c .wide2 .ensures) (omega (arith, at (c .before .before .before .
 mul-fill : tie.Need-mul-fill Inv-loop μ-loop
 mul-fill c = omega (arith, at (c .before .before .before .before .before) (c .before .before .before .before .loop-test .taken))
 
-sub-fill : tie.Need-sub-fill Inv-loop μ-loop
-sub-fill c = omega arith
-
-part-fill-start : tie.Need-part-fill-start Inv-loop μ-loop
-part-fill-start c = search needs
-
 part-fill-end : tie.Need-part-fill-end Inv-loop μ-loop
 part-fill-end c = omega (arith, at (c .before .before .before .before .before) (c .before .before .before .before .loop-test .taken), c .before .before .wide .ensures)
 
 mul-fill-2 : tie.Need-mul-fill-2 Inv-loop μ-loop
 mul-fill-2 c = omega (arith, at (c .before .before .before .before .before .before) (c .before .before .before .before .before .loop-test .taken), c .before .before .before .before .before .before .loop .inv .1)
-
-sub-fill-2 : tie.Need-sub-fill-2 Inv-loop μ-loop
-sub-fill-2 c = omega arith
-
-part-fill-start-2 : tie.Need-part-fill-start-2 Inv-loop μ-loop
-part-fill-start-2 c = search needs
 
 part-fill-end-2 : tie.Need-part-fill-end-2 Inv-loop μ-loop
 part-fill-end-2 c = omega (arith, at (c .before .before .before .before .before .before) (c .before .before .before .before .before .loop-test .taken), c .before .before .before .before .before .before .loop .inv .1, c .before .before .before .before .before .before .loop .inv .2 .long)
@@ -93,12 +72,6 @@ fill-requires c κs =
     let s = c .before .before .wide2 in
     (b .pre .0, (b .pre .1 .narrow, (turn-few 65535 (a .src .now) (a .row) (a .first) (a .count) (a .starts .now) (a .sizes .now) (a .window) (a .weights .now) (a .p) (a .out .now) (b .pre .1) (l .loop .i) (l .loop .o) (l .loop .out) (l .loop .inv) h (z .result) (s .result) (z .ensures) (s .ensures), (turn-lines 65535 (a .src .now) (a .row) (a .first) (a .count) (a .starts .now) (a .sizes .now) (a .window) (a .weights .now) (a .p) (a .out .now) (b .pre .1) (l .loop .i) (l .loop .o) (l .loop .out) (l .loop .inv) h (z .result) (s .result) (z .ensures) (s .ensures), turn-low 65535 (a .src .now) (a .row) (a .first) (a .count) (a .starts .now) (a .sizes .now) (a .window) (a .weights .now) (a .p) (a .out .now) (b .pre .1) (l .loop .i) (l .loop .o) (l .loop .out) (l .loop .inv) h (z .result) (s .result) (z .ensures) (s .ensures)))))
 
-add-i : tie.Need-add-i Inv-loop μ-loop
-add-i c = omega arith
-
-loop-less : tie.Need-loop-less Inv-loop μ-loop
-loop-less c = omega arith
-
 loop-again : tie.Need-loop-again Inv-loop μ-loop
 loop-again c =
     let l = c .before .before .before .before .before .before .before .before .before .before in
@@ -107,9 +80,6 @@ loop-again c =
     let z = c .before .before .before .before .before .before .before .wide in
     let s = c .before .before .before .before .before .wide2 in
     turn 65535 (a .src .now) (a .row) (a .first) (a .count) (a .starts .now) (a .sizes .now) (a .window) (a .weights .now) (a .p) (a .out .now) (b .pre .1) (l .loop .i) (l .loop .o) (l .loop .out) (l .loop .inv) (c .before .before .before .before .before .before .before .before .before .loop-test .taken) (z .result) (s .result) (z .ensures) (s .ensures) (c .before .before .fill .ensures)
-
-same-length : tie.Need-same-length Inv-loop μ-loop
-same-length c = search needs
 
 returns : tie.Need-returns Inv-loop μ-loop
 returns c =
@@ -121,32 +91,6 @@ returns c =
 pub rows-spec : {M : Type 1} → statement M
 rows-spec =
     tie.close
-    (tie.spec
-    Inv-loop
-    μ-loop
-    loop-holds
-    mul-a
-    mul-wide
-    shared-slice-read-wide
-    wide-requires
-    add-e
-    add-f
-    mul-wide-2
-    shared-slice-read-wide-2
-    wide-requires-2
-    mul-at
-    add-at
-    mul-fill
-    sub-fill
-    part-fill-start
-    part-fill-end
-    mul-fill-2
-    sub-fill-2
-    part-fill-start-2
-    part-fill-end-2
-    fill-requires
-    add-i
-    loop-less
-    loop-again
-    same-length
-    returns)
+    (tie.spec Inv-loop μ-loop loop-holds mul-a (λ c. omega arith) shared-slice-read-wide wide-requires add-e add-f (λ c. omega arith) (λ c. omega arith)
+    wide-requires-2 mul-at add-at mul-fill (λ c. omega arith) (λ c. search needs) part-fill-end mul-fill-2 (λ c. omega arith) (λ c. search needs)
+    part-fill-end-2 fill-requires (λ c. omega arith) (λ c. omega arith) loop-again (λ c. search needs) returns)

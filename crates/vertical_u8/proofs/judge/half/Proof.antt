@@ -7,15 +7,6 @@ use borrow.Author.Needs.{needs}
 use Rattle.vertical_u8.proofs.judge.half.Statement.{statement}
 use Rattle.vertical_u8.proofs.judge.half.Tie as tie
 
-sub-result : tie.Need-sub-result
-sub-result c = search needs
-
-cast-result : tie.Need-cast-result
-cast-result c = search needs
-
-shl-result : tie.Need-shl-result
-shl-result c = search needs
-
 returns : tie.Need-returns
 returns c =
     let n : ℕ = 2 ^ (c .args .p - 1) in
@@ -23,4 +14,4 @@ returns c =
     mod-eq-of-lt (omega arith) ∙ omega arith
 
 pub half-spec : {M : Type 1} → statement M
-half-spec = tie.close (tie.spec sub-result cast-result shl-result returns)
+half-spec = tie.close (tie.spec (λ c. search needs) (λ c. search needs) (λ c. search needs) returns)

@@ -11,14 +11,8 @@ use Rattle.vertical_u8.proofs.judge.is_heavy.Tie as tie
 small : (p : ℕ) {h : ℕ} → p ≤ 21 → h ≡ 2 ^ (p - 1) → h ≤ 2 ^ 20
 small p l e = let k : p - 1 ≤ 20 = omega arith in rw e (pow-le-pow-right {n = 2} (omega arith) k)
 
-sizes-total-requires : tie.Need-sizes-total-requires
-sizes-total-requires c κs = search needs
-
 mul-result : tie.Need-mul-result
 mul-result c = record { fits = omega (arith, c .sizes-total .ensures .1) }
-
-half-requires : tie.Need-half-requires
-half-requires c κs = search needs
 
 add-result : tie.Need-add-result
 add-result c =
@@ -30,4 +24,4 @@ returns c = rw (c .before .sizes-total .ensures .0, c .half .ensures)
 
 pub is-heavy-spec : {M : Type 1} → statement M
 is-heavy-spec =
-    tie.close (tie.spec sizes-total-requires mul-result half-requires add-result returns)
+    tie.close (tie.spec (λ c κs. search needs) mul-result (λ c κs. search needs) add-result returns)

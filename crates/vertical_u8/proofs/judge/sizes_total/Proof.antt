@@ -9,8 +9,8 @@ use mir.Facts.{toZ-ofZ}
 use mir.Syntax.{w16}
 use mir.Val.{toZ, ofZ}
 use Rattle.vertical.specs.Column.{weightAt}
-use Rattle.vertical_u8.specs.U8.{sizesTotal}
-use Rattle.vertical_u8.proofs.Sizes.{total-none, total-more}
+use Rattle.row_u8.specs.Sizes.{sizesTotal}
+use Rattle.row_u8.proofs.Sizes.{total-none, total-more}
 use Rattle.vertical_u8.proofs.judge.sizes_total.Statement.{statement}
 use Rattle.vertical_u8.proofs.judge.sizes_total.Tie as tie
 
@@ -22,12 +22,6 @@ abbrev μ-loop : tie.MeasureT-loop
 
 loop-holds : tie.Need-loop-holds Inv-loop μ-loop
 loop-holds c = (omega arith, sym (total-none (weightAt (c .args .ws .now))), omega arith)
-
-mul-size : tie.Need-mul-size Inv-loop μ-loop
-mul-size c = omega arith
-
-shared-slice-copy-out-size : tie.Need-shared-slice-copy-out-size Inv-loop μ-loop
-shared-slice-copy-out-size c = omega arith
 
 size-requires : tie.Need-size-requires Inv-loop μ-loop
 size-requires c κs = tt
@@ -41,12 +35,6 @@ add-total c =
     let l = c .before .before .before in
     let s = read (getD (l .before .args .ws .now) (l .loop .k) (pos 0)) (c .before .size-arg .given) (c .size .ensures) in
     record { fits = omega (arith, l .loop .inv .2, s .1, l .before .pre) }
-
-add-k : tie.Need-add-k Inv-loop μ-loop
-add-k c = omega arith
-
-loop-less : tie.Need-loop-less Inv-loop μ-loop
-loop-less c = omega arith
 
 loop-again : tie.Need-loop-again Inv-loop μ-loop
 loop-again c =
@@ -63,15 +51,5 @@ returns c =
 pub sizes-total-spec : {M : Type 1} → statement M
 sizes-total-spec =
     tie.close
-    (tie.spec
-    Inv-loop
-    μ-loop
-    loop-holds
-    mul-size
-    shared-slice-copy-out-size
-    size-requires
-    add-total
-    add-k
-    loop-less
-    loop-again
+    (tie.spec Inv-loop μ-loop loop-holds (λ c. omega arith) (λ c. omega arith) size-requires add-total (λ c. omega arith) (λ c. omega arith) loop-again
     returns)

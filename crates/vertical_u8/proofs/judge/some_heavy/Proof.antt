@@ -33,12 +33,6 @@ low c h = let b = c .before .before in let i : c .loop .i ≤ 8192 = omega (arit
 mul-a : tie.Need-mul-a Inv-loop μ-loop
 mul-a c = omega (arith, low (c .before) (c .loop-test .taken))
 
-mul-index : tie.Need-mul-index Inv-loop μ-loop
-mul-index c = omega arith
-
-shared-slice-read-index : tie.Need-shared-slice-read-index Inv-loop μ-loop
-shared-slice-read-index c = omega arith
-
 index-requires : tie.Need-index-requires Inv-loop μ-loop
 index-requires c κs = tt
 
@@ -51,12 +45,6 @@ add-e c =
 mul-is-heavy : tie.Need-mul-is-heavy Inv-loop μ-loop
 mul-is-heavy c = omega (arith, low (c .before .before .before) (c .before .before .loop-test .taken))
 
-sub-is-heavy : tie.Need-sub-is-heavy Inv-loop μ-loop
-sub-is-heavy c = omega arith
-
-part-is-heavy-start : tie.Need-part-is-heavy-start Inv-loop μ-loop
-part-is-heavy-start c = search needs
-
 part-is-heavy-end : tie.Need-part-is-heavy-end Inv-loop μ-loop
 part-is-heavy-end c = omega (arith, there (c .before .before .before) (c .before .before .loop-test .taken), c .index .ensures)
 
@@ -68,12 +56,6 @@ is-heavy-requires c κs =
     let z = c .before .index .ensures in
     let lw = part-size (a .weights .now) (l .loop .i * a .window) (c .before .index .result) (omega (arith, there l (c .before .before .before .loop-test .taken), z)) in
     (b .pre .0, omega (arith, lw, z, b .pre .1 .few (l .loop .i) (c .before .before .before .loop-test .taken)))
-
-add-i : tie.Need-add-i Inv-loop μ-loop
-add-i c = omega arith
-
-loop-less : tie.Need-loop-less Inv-loop μ-loop
-loop-less c = omega arith
 
 loop-again : tie.Need-loop-again Inv-loop μ-loop
 loop-again c =
@@ -93,21 +75,5 @@ returns c =
 pub some-heavy-spec : {M : Type 1} → statement M
 some-heavy-spec =
     tie.close
-    (tie.spec
-    Inv-loop
-    μ-loop
-    loop-holds
-    mul-a
-    mul-index
-    shared-slice-read-index
-    index-requires
-    add-e
-    mul-is-heavy
-    sub-is-heavy
-    part-is-heavy-start
-    part-is-heavy-end
-    is-heavy-requires
-    add-i
-    loop-less
-    loop-again
-    returns)
+    (tie.spec Inv-loop μ-loop loop-holds mul-a (λ c. omega arith) (λ c. omega arith) index-requires add-e mul-is-heavy (λ c. omega arith) (λ c. search needs)
+    part-is-heavy-end is-heavy-requires (λ c. omega arith) (λ c. omega arith) loop-again returns)

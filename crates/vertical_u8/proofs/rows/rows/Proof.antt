@@ -30,9 +30,6 @@ at c h =
 mul-a : tie.Need-mul-a Inv-loop μ-loop
 mul-a c = omega (arith, at (c .before) (c .loop-test .taken))
 
-mul-index : tie.Need-mul-index Inv-loop μ-loop
-mul-index c = omega arith
-
 shared-slice-read-index : tie.Need-shared-slice-read-index Inv-loop μ-loop
 shared-slice-read-index c = omega (arith, c .before .before .before .before .before .before .before .pre .1 .0 .set .pairs)
 
@@ -44,12 +41,6 @@ add-e c = rw (c .index .ensures) (omega (arith, at (c .before .before .before) (
 
 add-f : tie.Need-add-f Inv-loop μ-loop
 add-f c = omega (arith, at (c .before .before .before) (c .before .before .loop-test .taken), c .before .before .before .loop .inv .1)
-
-mul-index-2 : tie.Need-mul-index-2 Inv-loop μ-loop
-mul-index-2 c = omega arith
-
-shared-slice-read-index-2 : tie.Need-shared-slice-read-index-2 Inv-loop μ-loop
-shared-slice-read-index-2 c = omega arith
 
 index-requires-2 : tie.Need-index-requires-2 Inv-loop μ-loop
 index-requires-2 c κs = tt
@@ -63,20 +54,8 @@ add-at c = rw (c .index2 .ensures) (omega (arith, at (c .before .before .before 
 mul-fill : tie.Need-mul-fill Inv-loop μ-loop
 mul-fill c = omega (arith, at (c .before .before .before .before .before) (c .before .before .before .before .loop-test .taken))
 
-sub-fill : tie.Need-sub-fill Inv-loop μ-loop
-sub-fill c = omega arith
-
-part-fill-start : tie.Need-part-fill-start Inv-loop μ-loop
-part-fill-start c = search needs
-
 part-fill-end : tie.Need-part-fill-end Inv-loop μ-loop
 part-fill-end c = omega (arith, at (c .before .before .before .before .before) (c .before .before .before .before .loop-test .taken), c .before .before .index .ensures)
-
-sub-fill-2 : tie.Need-sub-fill-2 Inv-loop μ-loop
-sub-fill-2 c = omega arith
-
-part-fill-start-2 : tie.Need-part-fill-start-2 Inv-loop μ-loop
-part-fill-start-2 c = search needs
 
 part-fill-end-2 : tie.Need-part-fill-end-2 Inv-loop μ-loop
 part-fill-end-2 c = omega (arith, at (c .before .before .before .before .before .before) (c .before .before .before .before .before .loop-test .taken), c .before .before .before .before .before .before .loop .inv .1, c .before .before .before .before .before .before .loop .inv .2 .long)
@@ -93,12 +72,6 @@ fill-requires c κs =
     slice-room (a .window) (a .weights .now) (a .sizes .now) (a .p) (l .loop .i) (b .pre .1 .1) (omega (arith, b .pre .1 .0 .set .pairs)) (slots-are 255 (a .src .now) (a .row) (a .first) (a .count) (a .starts .now) (a .sizes .now) (a .window) (a .weights .now) (a .p) (a .out .now) (b .pre .1 .0) (l .loop .i) (l .loop .o) (l .loop .out) (l .loop .inv) h (z .result) (s .result) (z .ensures) (s .ensures)) (slots-size 255 (a .src .now) (a .row) (a .first) (a .count) (a .starts .now) (a .sizes .now) (a .window) (a .weights .now) (a .p) (a .out .now) (b .pre .1 .0) (l .loop .i) (l .loop .o) (l .loop .out) (l .loop .inv) h (z .result) (s .result) (z .ensures) (s .ensures)) in
     (b .pre .0, (room, (b .pre .1 .0 .narrow, (turn-lines 255 (a .src .now) (a .row) (a .first) (a .count) (a .starts .now) (a .sizes .now) (a .window) (a .weights .now) (a .p) (a .out .now) (b .pre .1 .0) (l .loop .i) (l .loop .o) (l .loop .out) (l .loop .inv) h (z .result) (s .result) (z .ensures) (s .ensures), turn-low 255 (a .src .now) (a .row) (a .first) (a .count) (a .starts .now) (a .sizes .now) (a .window) (a .weights .now) (a .p) (a .out .now) (b .pre .1 .0) (l .loop .i) (l .loop .o) (l .loop .out) (l .loop .inv) h (z .result) (s .result) (z .ensures) (s .ensures)))))
 
-add-i : tie.Need-add-i Inv-loop μ-loop
-add-i c = omega arith
-
-loop-less : tie.Need-loop-less Inv-loop μ-loop
-loop-less c = omega arith
-
 loop-again : tie.Need-loop-again Inv-loop μ-loop
 loop-again c =
     let l = c .before .before .before .before .before .before .before .before .before .before in
@@ -107,9 +80,6 @@ loop-again c =
     let z = c .before .before .before .before .before .before .before .index in
     let s = c .before .before .before .before .before .index2 in
     turn 255 (a .src .now) (a .row) (a .first) (a .count) (a .starts .now) (a .sizes .now) (a .window) (a .weights .now) (a .p) (a .out .now) (b .pre .1 .0) (l .loop .i) (l .loop .o) (l .loop .out) (l .loop .inv) (c .before .before .before .before .before .before .before .before .before .loop-test .taken) (z .result) (s .result) (z .ensures) (s .ensures) (c .before .before .fill .ensures)
-
-same-length : tie.Need-same-length Inv-loop μ-loop
-same-length c = search needs
 
 returns : tie.Need-returns Inv-loop μ-loop
 returns c =
@@ -121,31 +91,6 @@ returns c =
 pub rows-spec : {M : Type 1} → statement M
 rows-spec =
     tie.close
-    (tie.spec
-    Inv-loop
-    μ-loop
-    loop-holds
-    mul-a
-    mul-index
-    shared-slice-read-index
-    index-requires
-    add-e
-    add-f
-    mul-index-2
-    shared-slice-read-index-2
-    index-requires-2
-    mul-at
-    add-at
-    mul-fill
-    sub-fill
-    part-fill-start
-    part-fill-end
-    sub-fill-2
-    part-fill-start-2
-    part-fill-end-2
-    fill-requires
-    add-i
-    loop-less
-    loop-again
-    same-length
-    returns)
+    (tie.spec Inv-loop μ-loop loop-holds mul-a (λ c. omega arith) shared-slice-read-index index-requires add-e add-f (λ c. omega arith) (λ c. omega arith)
+    index-requires-2 mul-at add-at mul-fill (λ c. omega arith) (λ c. search needs) part-fill-end (λ c. omega arith) (λ c. search needs) part-fill-end-2
+    fill-requires (λ c. omega arith) (λ c. omega arith) loop-again (λ c. search needs) returns)

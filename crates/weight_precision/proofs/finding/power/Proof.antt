@@ -8,14 +8,8 @@ use lib.IntN.{pos}
 use lib.Ieee.{binary64, ofInt}
 use Rattle.numbers.proofs.Codes.{shift-unit}
 
-shl-nearest-u64-to-f64 : tie.Need-shl-nearest-u64-to-f64
-shl-nearest-u64-to-f64 c = search needs
-
-nearest-u64-to-f64-requires : tie.Need-nearest-u64-to-f64-requires
-nearest-u64-to-f64-requires c κs = search needs
-
 returns : tie.Need-returns
 returns c = c .nearest-u64-to-f64 .ensures ∙ ap (λ (n : ℕ). ofInt binary64 (pos n)) (shift-unit (c .before .args .p) (c .before .pre))
 
 pub power-spec : {M : Type 1} → statement M
-power-spec = tie.close (tie.spec shl-nearest-u64-to-f64 nearest-u64-to-f64-requires returns)
+power-spec = tie.close (tie.spec (λ c. search needs) (λ c κs. search needs) returns)

@@ -16,30 +16,15 @@ Inv-loop weights store w p₀ p = (p + 1 ≤ store .bits) × (precision store we
 abbrev μ-loop : tie.MeasureT-loop
 μ-loop weights store w p₀ p = store .bits - p
 
-largest-requires : tie.Need-largest-requires Inv-loop μ-loop
-largest-requires c κs = search needs
-
 loop-holds : tie.Need-loop-holds Inv-loop μ-loop
 unfolding precision
 loop-holds c = (c .before .before .pre .0, rw (c .largest .ensures, sub-zero) refl)
-
-add-if1 : tie.Need-add-if1 Inv-loop μ-loop
-add-if1 c = search needs
-
-reach-requires : tie.Need-reach-requires Inv-loop μ-loop
-reach-requires c κs = search needs
 
 returns : tie.Need-returns Inv-loop μ-loop
 returns c =
     let at = c .before .before .before .before in
     let test = reaches (at .before .before .before .args .store .limit) (at .before .largest .result) in
     sym (at .loop .inv .1 ∙ first-stop test (at .loop .p) (at .before .before .before .args .store .bits - 1 - at .loop .p) (omega arith) (sym (c .before .reach .ensures) ∙ c .if2 .taken))
-
-add-p : tie.Need-add-p Inv-loop μ-loop
-add-p c = search needs
-
-loop-less : tie.Need-loop-less Inv-loop μ-loop
-loop-less c = search needs
 
 loop-again : tie.Need-loop-again Inv-loop μ-loop
 loop-again c =
@@ -56,15 +41,5 @@ returns-2 c =
 pub precision-spec : {M : Type 1} → statement M
 precision-spec =
     tie.close
-    (tie.spec
-    Inv-loop
-    μ-loop
-    largest-requires
-    loop-holds
-    add-if1
-    reach-requires
-    returns
-    add-p
-    loop-less
-    loop-again
-    returns-2)
+    (tie.spec Inv-loop μ-loop (λ c κs. search needs) loop-holds (λ c. search needs) (λ c κs. search needs) returns (λ c. search needs) (λ c. search needs)
+    loop-again returns-2)

@@ -8,15 +8,9 @@ use Rattle.floats.specs.Doubles.{_times_}
 use Rattle.numbers.specs.Whole.{roundAway}
 use Rattle.weight_precision.specs.Precision.{scaled}
 
-power-requires : tie.Need-power-requires
-power-requires c κs = search needs
-
-round-requires : tie.Need-round-requires
-round-requires c κs = search needs
-
 returns : tie.Need-returns
 unfolding scaled
 returns c = c .round .ensures ∙ ap (λ (x : Float). roundAway binary64 (c .before .before .args .w times x)) (c .before .power .ensures)
 
 pub scaled-spec : {M : Type 1} → statement M
-scaled-spec = tie.close (tie.spec power-requires round-requires returns)
+scaled-spec = tie.close (tie.spec (λ c κs. search needs) (λ c κs. search needs) returns)

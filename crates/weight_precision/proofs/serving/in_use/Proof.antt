@@ -7,12 +7,6 @@ use Prim.Native.Nat.{_/_}
 use lib.ListN.{length}
 use Rattle.weight_precision.proofs.Slots.{window-of}
 
-rem-result : tie.Need-rem-result
-rem-result c = search needs
-
-div-result : tie.Need-div-result
-div-result c = search needs
-
 mul-result : tie.Need-mul-result
 mul-result c = let l = window-of (c .args .k) (length (c .args .sizes .now)) (c .args .window-size) (c .pre .0) (c .pre .1) in search needs
 
@@ -22,10 +16,7 @@ shared-slice-read-result c = window-of (c .before .args .k) (length (c .before .
 cast-result : tie.Need-cast-result
 cast-result c = record { fits = omega (arith, c .shared-slice-known .given (c .before .args .k / c .before .args .window-size) .fits) }
 
-returns : tie.Need-returns
-returns c = search needs
-
 pub in-use-spec : {M : Type 1} → statement M
 in-use-spec =
     tie.close
-    (tie.spec rem-result div-result mul-result shared-slice-read-result cast-result returns)
+    (tie.spec (λ c. search needs) (λ c. search needs) mul-result shared-slice-read-result cast-result (λ c. search needs))

@@ -4,11 +4,8 @@ use borrow.Author.Needs.{needs}
 use Rattle.weight_precision.proofs.serving.least.Statement.{statement}
 use Rattle.weight_precision.proofs.serving.least.Tie as tie
 
-power-requires : tie.Need-power-requires
-power-requires c κs = search needs
-
 returns : tie.Need-returns
 returns c = rw (c .power .ensures) refl
 
 pub least-spec : {M : Type 1} → statement M
-least-spec = tie.close (tie.spec power-requires returns)
+least-spec = tie.close (tie.spec (λ c κs. search needs) returns)

@@ -11,14 +11,8 @@ use Rattle.floats.specs.Doubles.{half64}
 use Rattle.weight_precision.proofs.serving.most.Statement.{statement}
 use Rattle.weight_precision.proofs.serving.most.Tie as tie
 
-shl-end : tie.Need-shl-end
-shl-end c = search needs
-
 sub-nearest-u64-to-f64 : tie.Need-sub-nearest-u64-to-f64
 sub-nearest-u64-to-f64 c = rw (shift-unit (c .args .limit) (omega (arith, c .pre))) (pow-pos (c .args .limit))
-
-nearest-u64-to-f64-requires : tie.Need-nearest-u64-to-f64-requires
-nearest-u64-to-f64-requires c κs = search needs
 
 returns : tie.Need-returns
 returns c =
@@ -26,4 +20,4 @@ returns c =
     ap (λ (x : Float). add binary64 x half64) (c .nearest-u64-to-f64 .ensures ∙ ap (λ (n : ℕ). ofInt binary64 (pos (n - 1))) (shift-unit (a .limit) (omega (arith, c .before .pre))))
 
 pub most-spec : {M : Type 1} → statement M
-most-spec = tie.close (tie.spec shl-end sub-nearest-u64-to-f64 nearest-u64-to-f64-requires returns)
+most-spec = tie.close (tie.spec (λ c. search needs) sub-nearest-u64-to-f64 (λ c κs. search needs) returns)

@@ -22,24 +22,6 @@ loop-holds c = (omega arith, refl)
 in-use-requires : tie.Need-in-use-requires Inv-loop μ-loop
 in-use-requires c κs = (c .before .before .before .before .pre .1 .1 .0, omega (arith, c .before .before .before .before .pre .1 .1 .1))
 
-mul-scaled : tie.Need-mul-scaled Inv-loop μ-loop
-mul-scaled c = search needs
-
-shared-slice-read-scaled : tie.Need-shared-slice-read-scaled Inv-loop μ-loop
-shared-slice-read-scaled c = search needs
-
-scaled-requires : tie.Need-scaled-requires Inv-loop μ-loop
-scaled-requires c κs = search needs
-
-holds-requires : tie.Need-holds-requires Inv-loop μ-loop
-holds-requires c κs = search needs
-
-add-k : tie.Need-add-k Inv-loop μ-loop
-add-k c = search needs
-
-loop-less : tie.Need-loop-less Inv-loop μ-loop
-loop-less c = search needs
-
 loop-again : tie.Need-loop-again Inv-loop μ-loop
 loop-again c = (omega arith, rw (add-one, c .before .before .before .before .before .loop .inv .1, c .before .before .before .in-use .ensures, c .holds .ensures, c .before .scaled .ensures) refl)
 
@@ -51,16 +33,5 @@ returns c =
 pub some-leaves-spec : {M : Type 1} → statement M
 some-leaves-spec =
     tie.close
-    (tie.spec
-    Inv-loop
-    μ-loop
-    loop-holds
-    in-use-requires
-    mul-scaled
-    shared-slice-read-scaled
-    scaled-requires
-    holds-requires
-    add-k
-    loop-less
-    loop-again
-    returns)
+    (tie.spec Inv-loop μ-loop loop-holds in-use-requires (λ c. search needs) (λ c. search needs) (λ c κs. search needs) (λ c κs. search needs)
+    (λ c. search needs) (λ c. search needs) loop-again returns)

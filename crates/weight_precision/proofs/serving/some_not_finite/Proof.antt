@@ -19,21 +19,6 @@ abbrev μ-loop : tie.MeasureT-loop
 loop-holds : tie.Need-loop-holds Inv-loop μ-loop
 loop-holds c = (omega arith, refl)
 
-mul-finite : tie.Need-mul-finite Inv-loop μ-loop
-mul-finite c = search needs
-
-shared-slice-read-finite : tie.Need-shared-slice-read-finite Inv-loop μ-loop
-shared-slice-read-finite c = search needs
-
-finite-requires : tie.Need-finite-requires Inv-loop μ-loop
-finite-requires c κs = search needs
-
-add-k : tie.Need-add-k Inv-loop μ-loop
-add-k c = search needs
-
-loop-less : tie.Need-loop-less Inv-loop μ-loop
-loop-less c = search needs
-
 loop-again : tie.Need-loop-again Inv-loop μ-loop
 loop-again c = (omega arith, rw (add-one, c .before .before .before .loop .inv .1, c .finite .ensures))
 
@@ -45,14 +30,5 @@ returns c =
 pub some-not-finite-spec : {M : Type 1} → statement M
 some-not-finite-spec =
     tie.close
-    (tie.spec
-    Inv-loop
-    μ-loop
-    loop-holds
-    mul-finite
-    shared-slice-read-finite
-    finite-requires
-    add-k
-    loop-less
-    loop-again
+    (tie.spec Inv-loop μ-loop loop-holds (λ c. search needs) (λ c. search needs) (λ c κs. search needs) (λ c. search needs) (λ c. search needs) loop-again
     returns)

@@ -9,18 +9,6 @@ use Rattle.weight_precision.proofs.serving.unstorable.Tie as tie
 returns : tie.Need-returns
 returns c = rw (lt-ltb (c .before .before .before .args .p) 4 (c .if1 .taken)) refl
 
-least-requires : tie.Need-least-requires
-least-requires c κs = search needs
-
-most-requires : tie.Need-most-requires
-most-requires c κs = search needs
-
-power-requires : tie.Need-power-requires
-power-requires c κs = search needs
-
-some-outside-requires : tie.Need-some-outside-requires
-some-outside-requires c κs = search needs
-
 returns-2 : tie.Need-returns-2
 returns-2 c =
     let start = c .before .before .before .before .before .before .before .before in
@@ -28,21 +16,10 @@ returns-2 c =
     let none = none-leaves (a .store) (start .pre .0) (a .p) (a .window-size) (a .weights .now) (a .sizes .now) (c .before .before .before .before .least .ensures) (c .before .before .before .most .ensures) (c .before .before .power .ensures) (c .before .some-outside .ensures) (c .if2 .taken) in
     rw (le-ltb (a .p) 4 (c .before .before .before .before .before .if1 .left), none) refl
 
-some-leaves-requires : tie.Need-some-leaves-requires
-some-leaves-requires c κs = search needs
-
 returns-3 : tie.Need-returns-3
 returns-3 c = rw (le-ltb (c .before .before .before .before .before .before .before .before .before .args .p) 4 (c .before .before .before .before .before .before .if1 .left)) (c .some-leaves .ensures)
 
 pub unstorable-spec : {M : Type 1} → statement M
 unstorable-spec =
     tie.close
-    (tie.spec
-    returns
-    least-requires
-    most-requires
-    power-requires
-    some-outside-requires
-    returns-2
-    some-leaves-requires
-    returns-3)
+    (tie.spec returns (λ c κs. search needs) (λ c κs. search needs) (λ c κs. search needs) (λ c κs. search needs) returns-2 (λ c κs. search needs) returns-3)

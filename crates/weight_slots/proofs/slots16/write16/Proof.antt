@@ -26,12 +26,6 @@ abbrev μ-loop : tie.MeasureT-loop
 loop-holds : tie.Need-loop-holds Inv-loop μ-loop
 loop-holds c = (omega arith, written-none)
 
-mul-slot16 : tie.Need-mul-slot16 Inv-loop μ-loop
-mul-slot16 c = search needs
-
-shared-slice-read-slot16 : tie.Need-shared-slice-read-slot16 Inv-loop μ-loop
-shared-slice-read-slot16 c = search needs
-
 in-use-requires : tie.Need-in-use-requires Inv-loop μ-loop
 in-use-requires c κs = (c .before .before .before .before .before .pre .1 .0, omega (arith, c .before .before .before .before .before .pre .1 .1 .0))
 
@@ -41,27 +35,12 @@ slot16-requires c κs =
     let stays = any-none (leaves store16 (start .args .p) (start .args .window-size) (start .args .weights .now) (start .args .sizes .now)) (length (start .args .weights .now)) (start .pre .1 .1 .1 .1) (c .before .before .before .loop .k) (omega arith) in
     (start .pre .0, rw (c .in-use .ensures) stays)
 
-mul-t12 : tie.Need-mul-t12 Inv-loop μ-loop
-mul-t12 c = search needs
-
-slice-set-from-out : tie.Need-slice-set-from-out Inv-loop μ-loop
-slice-set-from-out c = search needs
-
-add-k : tie.Need-add-k Inv-loop μ-loop
-add-k c = search needs
-
-loop-less : tie.Need-loop-less Inv-loop μ-loop
-loop-less c = search needs
-
 loop-again : tie.Need-loop-again Inv-loop μ-loop
 loop-again c =
     let start = c .before .before .before .before .before .before .before in
     let at = c .before .before .before .before in
     let value = toZ-ofZ (record { sfits = c .slot16 .ok }) ∙ c .slot16 .ensures ∙ ap (λ (used : Bool). cond used (integer store16 (start .args .p) (getD (start .args .weights .now) (at .loop .k) nan)) (pos 0)) (c .before .in-use .ensures) in
     (omega arith, written-more (at .loop .inv .1) (omega (arith, start .pre .1 .1 .1 .0)) value)
-
-same-length : tie.Need-same-length Inv-loop μ-loop
-same-length c = search needs
 
 returns : tie.Need-returns Inv-loop μ-loop
 returns c =
@@ -71,18 +50,5 @@ returns c =
 pub write16-spec : {M : Type 1} → statement M
 write16-spec =
     tie.close
-    (tie.spec
-    Inv-loop
-    μ-loop
-    loop-holds
-    mul-slot16
-    shared-slice-read-slot16
-    in-use-requires
-    slot16-requires
-    mul-t12
-    slice-set-from-out
-    add-k
-    loop-less
-    loop-again
-    same-length
-    returns)
+    (tie.spec Inv-loop μ-loop loop-holds (λ c. search needs) (λ c. search needs) in-use-requires slot16-requires (λ c. search needs) (λ c. search needs)
+    (λ c. search needs) (λ c. search needs) loop-again (λ c. search needs) returns)

@@ -4,11 +4,8 @@ use Rattle.windows.proofs.counts.counts_misfit.Statement.{statement}
 use Rattle.windows.proofs.counts.counts_misfit.Tie as tie
 
 -- src/lib.rt
-fills-requires : tie.Need-fills-requires
-fills-requires c κs = search needs
-
 returns : tie.Need-returns
 returns c = rw (c .fills .ensures)
 
 pub counts-misfit-spec : {M : Type 1} → statement M
-counts-misfit-spec = tie.close (tie.spec fills-requires returns)
+counts-misfit-spec = tie.close (tie.spec (λ c κs. search needs) returns)

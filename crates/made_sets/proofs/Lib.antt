@@ -1,0 +1,5 @@
+pub mod Planned
+pub mod Choice
+pub mod Made
+pub mod Fitting
+pub mod Taken

@@ -1,0 +1,4 @@
+pub mod Emptied
+pub mod Entering
+pub mod Finding
+pub mod Sure

@@ -1,0 +1,9 @@
+pub mod Sizes
+pub mod Ways
+pub mod RowLaws
+pub mod Lines
+pub mod Clip
+pub mod Final
+pub mod Sure
+pub mod Rows
+pub mod Example

@@ -1,0 +1,2 @@
+pub mod SumSizes
+pub mod Sure
