@@ -1,3 +1,4 @@
 pub mod CountLaws
 pub mod SumOrders
 pub mod FirstOrders
+pub mod Monotone

@@ -31,7 +31,7 @@ module _ (q : Request) (lines : ℕ) (ws : List Float) (ss zs : List ℕ) (out e
       (normalized-done (normal q lines ws ss zs out excesses) (ok .2))
 
   long : windows (stored q lines ws ss zs out excesses .set .layout) ≡ q .output
-  long = set.long-starts q ws ss zs (windowOf (built q lines ws ss zs out excesses)) (ok .0) made
+  long = set.long-starts q ws ss zs (windowOf (built q lines ws ss zs out excesses)) made
 
 pub box-premise : BoxPremise
 box-premise = premise

@@ -121,25 +121,25 @@ module _ (q : Request) (lines : ℕ) (ws : List Float) (ss zs : List ℕ) (w : �
   -- the precision
   exact : (30 ≤ P) × (P ≤ 45)
   exact =
-      let top = largest-within (s .weights) 1 (set.none-above q ws ss zs w box-asked built) in
+      let top = largest-within (s .weights) 1 (set.none-above q ws ss zs w built box-asked) in
       subst (λ (p : ℕ). (30 ≤ p) × (p ≤ 45)) (sym (got .found)) (precise (s .weights) top)
 
   module _ (i : ℕ) (h : i < q .output) where
     abbrev n : ℕ
-    n = size (set.plan q ws ss zs w box-asked built) i
+    n = size (set.plan q ws ss zs w built) i
 
     some : 0 < n
-    some = set.some-lines q ws ss zs w box-asked built i h .0
+    some = set.some-lines q ws ss zs w built box-asked i h .0
 
     many : n ≤ 8192
-    many = set.some-lines q ws ss zs w box-asked built i h .1
+    many = set.some-lines q ws ss zs w built box-asked i h .1
 
     size-is : getD (s .layout .sizes) i 0 ≡ n
-    size-is = set.size-at q ws ss zs w box-asked built i h
+    size-is = set.size-at q ws ss zs w built i h
 
     -- a line of the window: its slot, and that it is in use
     in-row : (k : ℕ) → k < n → k < w
-    in-row k l = lt-of-lt-of-le l (set.in-window q ws ss zs w box-asked built i h)
+    in-row k l = lt-of-lt-of-le l (set.in-window q ws ss zs w built box-asked i h)
 
     used : (k : ℕ) → k < n → inUse w (s .layout .sizes) (i * w + k) ≡ true
     used k l =
@@ -147,10 +147,10 @@ module _ (q : Request) (lines : ℕ) (ws : List Float) (ss zs : List ℕ) (w : �
         rw (digits-mod i r, digits-div i r, size-is) (lt-ltb k n l)
 
     share : (k : ℕ) → k < n → getD (s .weights) (i * w + k) nan ≡ weight n
-    share k l = set.share-at q ws ss zs w box-asked built i h k l
+    share k l = set.share-at q ws ss zs w built box-asked i h k l
 
     long : windows (s .layout) ≡ q .output
-    long = set.long-starts q ws ss zs w box-asked built
+    long = set.long-starts q ws ss zs w built
 
     place : (k : ℕ) → k < n → i * w + k < q .output * w
     place k l = digits-lt h (in-row k l)
@@ -159,7 +159,7 @@ module _ (q : Request) (lines : ℕ) (ws : List Float) (ss zs : List ℕ) (w : �
     fits : each n P some many (exact .1) < 2 ^ 31
     fits =
         let x = i * w + 0 in
-        let there : x < length (s .weights) = lt-of-lt-of-le (place 0 some) (le-of-eq (sym (set.long-weights q ws ss zs w box-asked built))) in
+        let there : x < length (s .weights) = lt-of-lt-of-le (place 0 some) (le-of-eq (sym (set.long-weights q ws ss zs w built))) in
         let kept : inUse w (s .layout .sizes) x && not (holds store32 (scaled P (weight n))) ≡ false =
         subst (λ (v : Float). inUse w (s .layout .sizes) x && not (holds store32 (scaled P v)) ≡ false) (share 0 some) (any-none (leaves store32 P w (s .weights) (s .layout .sizes)) (length (s .weights)) (got .inside) x there) in
         below-limit n P some many (exact .1)

@@ -1,4 +1,5 @@
--- The lists of a Box set that was built: slot by slot the shares of `BoxLines`, none above 1, and the sizes. Cited by BoxPremise. Assumes nothing.
+-- The lists of a set that was built, slot by slot those of its plan, and their lengths; of a Box set the shares of `BoxLines`, none above 1. Cited by BoxPremise, and of any filter by the crate `ringing`.
+-- Assumes nothing.
 use mathlib.Core.Path.{_≡_, sym, ap, _∙_, subst}
 use mathlib.Core.Bool.{false, _||_}
 use mathlib.Core.List.{List}
@@ -43,14 +44,14 @@ picked-box kind f e h = same f (rw e at h)
     same : (f : Filter) → Is filter.Box ≡ Is f → f ≡ filter.Box
     same f h = cc
 
-module _ (q : Request) (ws : List Float) (ss zs : List ℕ) (w : ℕ) (box : q .filter ≡ Box) (done : builtOf q (length ws) (length ss) (length zs) ≡ Done w) where
+module _ (q : Request) (ws : List Float) (ss zs : List ℕ) (w : ℕ) (done : builtOf q (length ws) (length ss) (length zs) ≡ Done w) where
   pub set : DoneSet q (length ws) (length ss) (length zs) w
   set = done-set q (length ws) (length ss) (length zs) w done
 
   abbrev pub plan : Plan
   plan = set .plan
 
-  kept : Kept q plan
+  pub kept : Kept q plan
   kept = plan-kept q plan (set .ready)
 
   sound : Sound plan
@@ -104,7 +105,7 @@ module _ (q : Request) (ws : List Float) (ss zs : List ℕ) (w : ℕ) (box : q .
       length-take-le (q .output * w) (weightsOf q (length ws) (length ss) (length zs) ws)
       (rw (weights-are, length-front (slots plan) (grid (plan .window) (slot plan)) ws (r .0)) (omega arith))
 
-  weight-at : (x : ℕ) → x < q .output * w → getD weights x nan ≡ grid (plan .window) (slot plan) x
+  pub weight-at : (x : ℕ) → x < q .output * w → getD weights x nan ≡ grid (plan .window) (slot plan) x
   weight-at x h =
       getD-take (q .output * w) (weightsOf q (length ws) (length ss) (length zs) ws) x nan h
       ∙ ap (λ (l : List Float). getD l x nan) weights-are
@@ -116,45 +117,46 @@ module _ (q : Request) (ws : List Float) (ss zs : List ℕ) (w : ℕ) (box : q .
       ∙ ap (λ (l : List ℕ). getD l i 0) sizes-are
       ∙ front-below (plan .output) (size plan) zs i 0 (lt-of-lt-of-le h (le-of-eq (sym (kept .output-kept))))
 
-  module _ (i : ℕ) (h : i < q .output) where
-    filter-is : plan .filter ≡ filter.Box
-    filter-is = picked-box (q .filter) (plan .filter) box (kept .filter-kept)
+  module _ (box : q .filter ≡ Box) where
+    module _ (i : ℕ) (h : i < q .output) where
+      filter-is : plan .filter ≡ filter.Box
+      filter-is = picked-box (q .filter) (plan .filter) box (kept .filter-kept)
 
-    in-plan : i < plan .output
-    in-plan = lt-of-lt-of-le h (le-of-eq (sym (kept .output-kept)))
+      in-plan : i < plan .output
+      in-plan = lt-of-lt-of-le h (le-of-eq (sym (kept .output-kept)))
 
-    low : i < 8192
-    low = lt-of-lt-of-le in-plan (sound .lines)
+      low : i < 8192
+      low = lt-of-lt-of-le in-plan (sound .lines)
 
-    full : blank plan i ≡ false
-    full = done-lines set i in-plan
+      full : blank plan i ≡ false
+      full = done-lines set i in-plan
 
-    -- how many lines the window has
-    pub some-lines : (0 < size plan i) × (size plan i ≤ 8192)
-    some-lines = lines plan i filter-is sound low (kept .recip-small) full
+      -- how many lines the window has
+      pub some-lines : (0 < size plan i) × (size plan i ≤ 8192)
+      some-lines = lines plan i filter-is sound low (kept .recip-small) full
 
-    pub in-window : size plan i ≤ w
-    in-window = let f = window-fits plan i sound low full .room in let e = set .wide in omega arith
+      pub in-window : size plan i ≤ w
+      in-window = let f = window-fits plan i sound low full .room in let e = set .wide in omega arith
 
-    -- its shares
-    pub share-at : (k : ℕ) → k < size plan i → getD weights (i * w + k) nan ≡ weight (size plan i)
-    share-at k l =
-        let c = in-window in
-        let m : k < plan .window = lt-of-lt-of-le l (le-trans c (le-of-eq (set .wide))) in
-        weight-at (i * w + k) (digits-lt h (lt-of-lt-of-le l c))
-        ∙ ap (λ (n : ℕ). grid (plan .window) (slot plan) (i * n + k)) (set .wide)
-        ∙ grid-at (plan .window) (slot plan) i k m
-        ∙ share plan i filter-is sound low (kept .recip-small) full k l
+      -- its shares
+      pub share-at : (k : ℕ) → k < size plan i → getD weights (i * w + k) nan ≡ weight (size plan i)
+      share-at k l =
+          let c = in-window in
+          let m : k < plan .window = lt-of-lt-of-le l (le-trans c (le-of-eq (set .wide))) in
+          weight-at (i * w + k) (digits-lt h (lt-of-lt-of-le l c))
+          ∙ ap (λ (n : ℕ). grid (plan .window) (slot plan) (i * n + k)) (set .wide)
+          ∙ grid-at (plan .window) (slot plan) i k m
+          ∙ share plan i filter-is sound low (kept .recip-small) full k l
 
-    light-at : (k : ℕ) → Within (slot plan i k) 1
-    light-at k = light plan i filter-is sound low (kept .recip-small) full k
+      light-at : (k : ℕ) → Within (slot plan i k) 1
+      light-at k = light plan i filter-is sound low (kept .recip-small) full k
 
-  -- no weight of the set is above 1
-  pub none-above : (x : ℕ) → x < length weights → Within (getD weights x nan) 1
-  none-above x h =
-      let l : x < q .output * w = lt-of-lt-of-le h (le-of-eq long-weights) in
-      let e = set .wide in
-      let some : 0 < w = some-column (q .output) w x l in
-      let row : x / w < q .output = div-lt-iff-lt-mul some .1 l in
-      subst (λ (v : Float). Within v 1) (sym (weight-at x l))
-      (subst (λ (n : ℕ). Within (slot plan (x / n) (x % n)) 1) e (light-at (x / w) row (x % w)))
+    -- no weight of the set is above 1
+    pub none-above : (x : ℕ) → x < length weights → Within (getD weights x nan) 1
+    none-above x h =
+        let l : x < q .output * w = lt-of-lt-of-le h (le-of-eq long-weights) in
+        let e = set .wide in
+        let some : 0 < w = some-column (q .output) w x l in
+        let row : x / w < q .output = div-lt-iff-lt-mul some .1 l in
+        subst (λ (v : Float). Within v 1) (sym (weight-at x l))
+        (subst (λ (n : ℕ). Within (slot plan (x / n) (x % n)) 1) e (light-at (x / w) row (x % w)))

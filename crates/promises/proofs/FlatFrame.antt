@@ -30,7 +30,7 @@ use Rattle.promises.proofs.DoneU8.{TestsU8, tests-u8}
 use Rattle.promises.proofs.Frames.{flat-unchanged}
 
 -- row i of an output is window i at each column
-row-of-output : {A : Type 0} (at : ℕ → ℕ → A) (n first count i : ℕ) → i < n → rowOf count i (output at n first count) ≡ tab 0 count (λ j. at i (first + j))
+pub row-of-output : {A : Type 0} (at : ℕ → ℕ → A) (n first count i : ℕ) → i < n → rowOf count i (output at n first count) ≡ tab 0 count (λ j. at i (first + j))
 row-of-output {A} at n first count i h =
     let cell : ℕ → ℕ → A = λ i j. at i (first + j) in
     let rest = n * count - (i * count + count) in
@@ -88,7 +88,7 @@ module _ (s : Stored) (samples row first count room : ℕ) (none : numberOf (pas
   pub some-u16 : 1 ≤ s .precision
   some-u16 = omega (arith, stored-precise s store32 (tests .stored))
 
-written : (s : Stored) (src : List ℕ) (row first count : ℕ) (old : List ℕ) → numberOf (passedU16 s (length src) row first count (length old)) ≡ 0 → writtenU16 s src row first count old ≡ output (valueAt 65535 s (frame 0 src row)) (windows (s .set .layout)) first count
+pub written : (s : Stored) (src : List ℕ) (row first count : ℕ) (old : List ℕ) → numberOf (passedU16 s (length src) row first count (length old)) ≡ 0 → writtenU16 s src row first count old ≡ output (valueAt 65535 s (frame 0 src row)) (windows (s .set .layout)) first count
 unfolding writtenU16
 written s src row first count old none = rw (passed-done (passedU16 s (length src) row first count (length old)) none)
 
@@ -111,7 +111,7 @@ module _ (s : Stored) (samples row first count room : ℕ) (none : numberOf (pas
   pub some-u8 : 1 ≤ s .precision
   some-u8 = omega (arith, stored-precise s store16 (tests-8 .tests .stored))
 
-written-u8 : (s : Stored) (src : List ℕ) (row first count : ℕ) (old : List ℕ) → numberOf (passedU8 s (length src) row first count (length old)) ≡ 0 → writtenU8 s src row first count old ≡ output (valueAt 255 s (frame 0 src row)) (windows (s .set .layout)) first count
+pub written-u8 : (s : Stored) (src : List ℕ) (row first count : ℕ) (old : List ℕ) → numberOf (passedU8 s (length src) row first count (length old)) ≡ 0 → writtenU8 s src row first count old ≡ output (valueAt 255 s (frame 0 src row)) (windows (s .set .layout)) first count
 unfolding writtenU8
 written-u8 s src row first count old none = rw (passed-done (passedU8 s (length src) row first count (length old)) none)
 

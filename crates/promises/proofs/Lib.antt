@@ -1,4 +1,4 @@
-mod Accepted
+pub mod Accepted
 mod DoneU8
 pub mod Frames
 pub mod FlatFrame

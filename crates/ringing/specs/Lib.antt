@@ -1,0 +1,3 @@
+pub mod NoRinging
+pub mod NeverNegative
+pub mod Rings
