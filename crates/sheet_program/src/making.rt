@@ -1,5 +1,5 @@
 // What is asked becomes a request, the request a set of doubles in lists of the program's own. A request that document 01 accepts needs at
-// most 4 x extent + 3 x output side slots, 57,344, so the lists are long enough.
+// most 57,344 slots (docs/DECISIONS.md, "Answers of the printing program"), so the lists are long enough.
 use crate::Asked;
 use crate::limits;
 use crate::refused::blank;
