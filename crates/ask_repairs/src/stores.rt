@@ -22,7 +22,7 @@ pub(crate) fn judged(
     let other_window = fields::whole(line, 9);
     let other_precision = fields::whole(line, 10);
     if weights::are_narrow(line) {
-        let answer = repairs::accept_offer16(
+        let answer = accept_offers::accept_offer16(
             lines,
             window,
             precision,
@@ -38,7 +38,7 @@ pub(crate) fn judged(
         );
         return answer.number();
     }
-    let answer = repairs::accept_offer32(
+    let answer = accept_offers::accept_offer32(
         lines,
         window,
         precision,
@@ -70,7 +70,7 @@ pub(crate) fn made(
     let window = fields::whole(line, 3);
     let precision = fields::whole(line, 4);
     if weights::are_narrow(line) {
-        return repairs::make_offer16(
+        return make_offers::make_offer16(
             lines,
             window,
             precision,
@@ -81,7 +81,7 @@ pub(crate) fn made(
             lent_narrow,
         );
     }
-    repairs::make_offer32(
+    make_offers::make_offer32(
         lines,
         window,
         precision,

@@ -150,7 +150,7 @@ fn one(
     out: &mut [u8],
 ) -> usize {
     if fields::is(call, 0, b"r") {
-        let answer = shared_store::restart(
+        let answer = share_restarts::restart(
             numbers,
             slots,
             starts,

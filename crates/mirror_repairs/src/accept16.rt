@@ -25,7 +25,7 @@ pub extern "C" fn mirror_accept16(
     ensures written { λ _. ⌜ now (weights .exit) ≡ weightsOf store16 (storedOf (setOf (layoutOf lines window (now (starts .entry)) (now (sizes .entry))) (now (weights .entry))) precision (now (excesses .entry))) (offerOf «offered_window» «offered_precision» (now («offered_starts» .entry)) (now («offered_sizes» .entry)) (now («offered_weights» .entry))) ⌝ }
     ensures written2 { λ _. ⌜ now (excesses .exit) ≡ excessesOf store16 (storedOf (setOf (layoutOf lines window (now (starts .entry)) (now (sizes .entry))) (now (weights .entry))) precision (now (excesses .entry))) (offerOf «offered_window» «offered_precision» (now («offered_starts» .entry)) (now («offered_sizes» .entry)) (now («offered_weights» .entry))) ⌝ }
 {
-    let answer = repairs::accept_offer16(
+    let answer = accept_offers::accept_offer16(
         lines,
         window,
         precision,

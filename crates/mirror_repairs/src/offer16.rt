@@ -23,7 +23,7 @@ pub extern "C" fn mirror_offer16(
     ensures written { λ _. ⌜ now (out .exit) ≡ writtenOf store16 (storedOf (setOf (layoutOf lines window (now (starts .entry)) (now (sizes .entry))) (now (weights .entry))) precision (now (excesses .entry))) (now (out .entry)) ⌝ }
     ensures written2 { λ _. ⌜ now (line .exit) ≡ offeredLine (offeredOf store16 (storedOf (setOf (layoutOf lines window (now (starts .entry)) (now (sizes .entry))) (now (weights .entry))) precision (now (excesses .entry))) (length (now (out .entry)))) ⌝ }
 {
-    let answer = repairs::make_offer16(
+    let answer = make_offers::make_offer16(
         lines,
         window,
         precision,

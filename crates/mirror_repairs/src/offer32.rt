@@ -23,7 +23,7 @@ pub extern "C" fn mirror_offer32(
     ensures written { λ _. ⌜ now (out .exit) ≡ writtenOf store32 (storedOf (setOf (layoutOf lines window (now (starts .entry)) (now (sizes .entry))) (now (weights .entry))) precision (now (excesses .entry))) (now (out .entry)) ⌝ }
     ensures written2 { λ _. ⌜ now (line .exit) ≡ offeredLine (offeredOf store32 (storedOf (setOf (layoutOf lines window (now (starts .entry)) (now (sizes .entry))) (now (weights .entry))) precision (now (excesses .entry))) (length (now (out .entry)))) ⌝ }
 {
-    let answer = repairs::make_offer32(
+    let answer = make_offers::make_offer32(
         lines,
         window,
         precision,

@@ -1,13 +1,14 @@
 // `offers`: repairs of the weights of one window. Whether offered weights are one (`window_refused`, a test of `Repair`), whether the window has one (`window_lacks`), and the
-// weights that we offer ourselves (`offer_window16`, `offer_window32`). Judging and counting are one function for both stores, over two lists of which a store has one; only
-// what writes a list stands twice. Lent to the walks over all windows.
+// steps of a single weight, by which `offer_rows` writes the weights that we offer ourselves. Judging and counting are one function for both stores, over two lists of
+// which a store has one. Lent to the walks over all windows.
 mod judge;
 mod own;
-mod row16;
-mod row32;
 mod steps;
 
 pub use judge::window_refused;
 pub use own::window_lacks;
-pub use row16::offer_window16;
-pub use row32::offer_window32;
+pub use steps::can_go;
+pub use steps::size;
+pub use steps::slot;
+pub use steps::tally;
+pub use steps::way;

@@ -9,7 +9,7 @@ ghost use Rattle.offers.specs.Repair.{inType};
 ghost use Rattle.offers.specs.Own.{way as wayOf};
 
 // The size of a signed number. -1 - v fits for every v below 0, where -v would not.
-pub(crate) fn size(v: i64) -> u64
+pub fn size(v: i64) -> u64
     ensures answer { λ r. ⌜ r ≡ natAbs v ⌝ }
 {
     if v < 0 {
@@ -19,7 +19,7 @@ pub(crate) fn size(v: i64) -> u64
 }
 
 // The step that an excess asks for.
-pub(crate) fn way(e: i64) -> i64
+pub fn way(e: i64) -> i64
     ensures answer { λ r. ⌜ r ≡ wayOf e ⌝ }
 {
     if e < 0 {
@@ -41,7 +41,7 @@ pub(crate) fn in_type(limit: u32, v: i64) -> bool
 }
 
 // Whether a weight that goes by s stays inside it.
-pub(crate) fn can_go(limit: u32, w: i64, s: i64) -> bool
+pub fn can_go(limit: u32, w: i64, s: i64) -> bool
     requires { ⌜ (limit ≤ 31) × (natAbs w ≤ 2 ^ 31) × (natAbs s ≤ 1) ⌝ }
     ensures answer { λ r. ⌜ r ≡ inType limit (w +ℤ s) ⌝ }
 {
@@ -49,7 +49,7 @@ pub(crate) fn can_go(limit: u32, w: i64, s: i64) -> bool
 }
 
 // The weight of a slot of our own offer: gone by s where it goes, and 0 in an idle slot.
-pub(crate) fn slot(w: i64, s: i64, goes: bool, used: bool) -> i64
+pub fn slot(w: i64, s: i64, goes: bool, used: bool) -> i64
     requires { ⌜ (natAbs w ≤ 2 ^ 31) × (natAbs s ≤ 1) ⌝ }
     ensures answer { λ r. ⌜ r ≡ cond used (cond goes (w +ℤ s) w) (pos 0) ⌝ }
 {
@@ -63,7 +63,7 @@ pub(crate) fn slot(w: i64, s: i64, goes: bool, used: bool) -> i64
 }
 
 // One more where it counts.
-pub(crate) fn tally(c: usize, counts: bool) -> usize
+pub fn tally(c: usize, counts: bool) -> usize
     requires { ⌜ c + 1 < 2 ^ 64 ⌝ }
     ensures answer { λ r. ⌜ r ≡ c + cond counts 1 0 ⌝ }
 {

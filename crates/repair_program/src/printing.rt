@@ -58,7 +58,7 @@ fn written(
     let window = head.window_size;
     let precision = store.precision;
     if store.bits == 16 {
-        return sheet::write_sheet16(
+        return write_sheets::write_sheet16(
             kind,
             lines,
             window,
@@ -70,7 +70,7 @@ fn written(
             text,
         );
     }
-    sheet::write_sheet32(
+    write_sheets::write_sheet32(
         kind,
         lines,
         window,

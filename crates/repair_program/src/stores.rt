@@ -20,7 +20,7 @@ pub(crate) fn offered(
     let window = head.window_size;
     let precision = store.precision;
     if store.bits == 16 {
-        return repairs::make_offer16(
+        return make_offers::make_offer16(
             lines,
             window,
             precision,
@@ -31,7 +31,7 @@ pub(crate) fn offered(
             narrow_offer,
         );
     }
-    repairs::make_offer32(
+    make_offers::make_offer32(
         lines,
         window,
         precision,
@@ -59,7 +59,7 @@ pub(crate) fn accepted(
     let window = head.window_size;
     let precision = store.precision;
     if store.bits == 16 {
-        return repairs::accept_offer16(
+        return accept_offers::accept_offer16(
             lines,
             window,
             precision,
@@ -74,7 +74,7 @@ pub(crate) fn accepted(
             narrow_offer,
         );
     }
-    repairs::accept_offer32(
+    accept_offers::accept_offer32(
         lines,
         window,
         precision,

@@ -1,17 +1,8 @@
-// `repairs`: offered repairs of weights. `accept_offer16` and `accept_offer32` judge an offer of changed weights for a stored set and take it over; `make_offer16` and
-// `make_offer32` write an offer of our own. An offer moves weights by at most 1 inside their type so that every window's total is 2^precision (`Repair`, one window, in
-// `offers`). Where a call is refused nothing is touched.
-mod accept16;
-mod accept32;
+// `repairs`: the rules of offered repairs, and their answers. An offer moves weights by at most 1 inside their type so that every window's total is 2^precision (`Repair`, one
+// window, in `offers`). `accept_offers` judges an offer for a stored set and takes it over, `make_offers` writes one of our own; what the two promise each other and the set
+// is proved here, over the definitions.
 mod answer;
-mod judge;
-mod make;
-mod shape;
 
-pub use accept16::accept_offer16;
-pub use accept32::accept_offer32;
-pub use make::make_offer16;
-pub use make::make_offer32;
 use refusal::Refusal;
 use windows::DisplayLine;
 

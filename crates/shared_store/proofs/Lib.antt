@@ -1,4 +1,3 @@
-pub mod Emptied
 pub mod Entering
 pub mod Finding
 pub mod Sure

@@ -1,16 +1,11 @@
--- The contracts of `restart`, `put` and `pass` decide their answers and every list that they may write. Cited by docs/CONTRACTS.md. Assumes nothing.
+-- The contracts of `put` and `pass` decide their answers and every list that they may write. Cited by docs/CONTRACTS.md. Assumes nothing.
 use mathlib.Core.Path.{_≡_, _∙_, sym}
 use denote.Ref.{now}
 use Rattle.lists.proofs.Sure.{Decides}
-use Rattle.shared_store.proofs.restarting.restart.Kinds as restart
-use Rattle.shared_store.proofs.restarting.restart.Reads as restart-reads
 use Rattle.shared_store.proofs.put.Kinds as put
 use Rattle.shared_store.proofs.put.Reads as put-reads
 use Rattle.shared_store.proofs.pass.Kinds as pass
 use Rattle.shared_store.proofs.pass.Reads as pass-reads
-
-pub restart-decides : Decides restart.ps restart.r restart-reads.Post (λ κs s t. now (s .0) ≡ now (t .0))
-restart-decides κs a x y s t p q = (p .0 ∙ sym (q .0), p .1 ∙ sym (q .1))
 
 pub put-decides : Decides put.ps put.r put-reads.Post
     (λ κs s t. (now (s .0) ≡ now (t .0))

@@ -1,8 +1,6 @@
-// `shared_store`: one weight store for two clients. `restart` gives each a share of the slots and empties both, `put` puts a client's set in the place of its former
-// one, and `pass` is the u16 pass with the set that a client holds. The store is five lists that are lent with each call: ten `numbers`, five a client (its share; camera
+// `shared_store`: one weight store for two clients. `put` puts a client's set in the place of its former one, and `pass` is the u16 pass with the set that a client holds;
+// a restart is `share_restarts`. The store is five lists that are lent with each call: ten `numbers`, five a client (its share; camera
 // lines, windows, window size and precision of its set), the `slots`, and 8,192 `starts`, `sizes` and `excesses` a client. The contracts are the steps of the machine of `shares`.
-mod restarting;
-
 ghost use mathlib.Core.Path.{_≡_};
 ghost use lib.ListN.{length};
 ghost use Rattle.shares.specs.Store.{storeOf, viewOf};
@@ -11,7 +9,6 @@ ghost use Rattle.shares.specs.Machine.{next, by, puts, putAnswer, scratchAfter,
 use coefficients::Built;
 use plans::Request;
 use refusal::Refusal;
-pub use restarting::restart;
 use share_lists::Found;
 use share_lists::barred;
 use share_lists::find;

@@ -37,7 +37,7 @@ pub(crate) fn sheet16(asked: Asked, window: u32, weights: &[f64], starts: &[u32]
     }
     let filter = asked.filter;
     let used = &store[a..n];
-    let written = sheet::write_sheet16(
+    let written = write_sheets::write_sheet16(
         filter,
         side,
         window,
@@ -81,7 +81,7 @@ pub(crate) fn sheet32(asked: Asked, window: u32, weights: &[f64], starts: &[u32]
     }
     let filter = asked.filter;
     let used = &store[a..n];
-    let written = sheet::write_sheet32(
+    let written = write_sheets::write_sheet32(
         filter,
         side,
         window,

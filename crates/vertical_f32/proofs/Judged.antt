@@ -18,7 +18,7 @@ use Rattle.vertical.specs.F32.{valueF32, infinities, badWeights, badSamples, pa
 use Rattle.vertical.proofs.Answers.{shaped}
 use Rattle.vertical.proofs.Columns.{some-column}
 use Rattle.vertical.proofs.Turns.{output-is}
-use Rattle.vertical_f32.specs.Column.{windowValue}
+use Rattle.row_f32.specs.Column.{windowValue}
 use Rattle.vertical_f32.proofs.Values.{value-is}
 
 finite-none : (x : Float) (n : ℕ) → AtMost x n → isInfinite x ≡ false

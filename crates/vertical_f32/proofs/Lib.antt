@@ -1,10 +1,3 @@
-pub mod FromAbove
-pub mod AddAway
-pub mod Overflow
-pub mod SignBack
-pub mod Narrowed
-pub mod Fast
-pub mod SumLaws
 pub mod Turns
 pub mod Values
 pub mod Judged

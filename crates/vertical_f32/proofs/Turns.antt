@@ -10,7 +10,7 @@ use lib.Ieee.{Float, nan}
 use Rattle.floats.specs.Within.{AtMost}
 use Rattle.vertical.specs.Ready.{Ready}
 use Rattle.vertical.proofs.Turns.{WindowThere, window-there}
-use Rattle.vertical_f32.specs.Column.{Summable}
+use Rattle.row_f32.specs.Column.{Summable}
 use Rattle.finite_f32.specs.Scan.{SmallSamples, SmallWeights}
 
 module _ (src : List Float) (row first count : ℕ) (starts sizes : List ℕ) (window : ℕ) (weights : List Float) (room : ℕ)

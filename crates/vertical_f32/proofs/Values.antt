@@ -12,7 +12,7 @@ use Rattle.numbers.specs.Whole.{narrow}
 use Rattle.windows.specs.Set.{Set, size, start, weight, sample}
 use Rattle.vertical.specs.Frame.{frame}
 use Rattle.vertical.specs.F32.{valueF32}
-use Rattle.vertical_f32.specs.Column.{columnSum, windowValue}
+use Rattle.row_f32.specs.Column.{columnSum, windowValue}
 
 -- the sum over a slice is the sum of the terms, where weights and samples agree
 sum-is : (ws src : List Float) (at row : ℕ) (w s : ℕ → Float) (n : ℕ) → ((k : ℕ) → k < n → getD ws k nan ≡ w k) → ((k : ℕ) → k < n → getD src (at + k * row) nan ≡ s k) → columnSum ws src at row n ≡ turns (λ t k. add binary64 t (mul binary64 (s k) (w k))) (ofBits binary64 0) n

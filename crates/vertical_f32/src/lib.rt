@@ -1,9 +1,6 @@
 // `vertical_f32`: the vertical pass over f32 samples with f64 weights, as `passedF32` and `writtenF32` of `vertical` say. Counterpart of vertical_f32/native.rs.
 // Everything is judged before anything is written: sizes and shape by `vertical`, the weights in use, then each camera line in use, once.
-mod columns;
-mod narrowing;
 mod rows;
-mod sums;
 
 use finite_f32::counted;
 use finite_f32::samples_fit;

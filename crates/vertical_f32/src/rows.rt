@@ -1,8 +1,8 @@
 // Every window's row, each in its place of the output, and whether every sample is finite.
-use super::columns::fill;
 use finite_f32::all_four;
 use finite_f32::is_zero;
 use finite_f32::rest;
+use row_f32::fill;
 ghost use mathlib.Core.Path.{_≡_};
 ghost use mathlib.Core.Bool.{true};
 ghost use Prim.Native.Nat.{ℕ, _+_, _*_, _/_, _^_, _<_, _≤_};
@@ -10,7 +10,7 @@ ghost use lib.ListN.{length, getD, take, drop};
 ghost use lib.Ieee.{nan};
 ghost use Rattle.floats.specs.Within.{AtMost};
 ghost use Rattle.vertical.specs.Ready.{Ready};
-ghost use Rattle.vertical_f32.specs.Column.{columnValue, windowValue, Summable};
+ghost use Rattle.row_f32.specs.Column.{columnValue, windowValue, Summable};
 ghost use Rattle.finite_f32.specs.Scan.{Zeros, Flags, SmallSamples, SmallWeights};
 
 fn wide(x: u32) -> usize

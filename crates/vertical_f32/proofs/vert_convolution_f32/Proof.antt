@@ -15,7 +15,7 @@ use Rattle.vertical.specs.F32.{badWeights, badSamples}
 use Rattle.vertical.specs.Frame.{badSize, badShape}
 use Rattle.windows.specs.Set.{Set, layoutOf, setOf, windows}
 use Rattle.finite_f32.proofs.Flags.{weights-said, samples-said}
-use Rattle.vertical_f32.specs.Column.{windowValue}
+use Rattle.row_f32.specs.Column.{windowValue}
 use Rattle.vertical_f32.proofs.Judged.{bad-size, bad-shape, bad-weights, bad-samples, all-finite, done}
 use Rattle.vertical_f32.proofs.vert_convolution_f32.Statement.{statement}
 use Rattle.vertical_f32.proofs.vert_convolution_f32.Tie as tie

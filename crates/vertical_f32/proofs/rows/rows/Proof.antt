@@ -17,7 +17,7 @@ use Rattle.vertical_f32.proofs.Turns.{there-here, summable-here}
 use Rattle.finite_f32.specs.Scan.{isZero, flag, Zeros, Flags}
 use Rattle.finite_f32.proofs.Lanes.{start-flags, start-zero, zero-flag}
 use Rattle.floats.specs.Within.{AtMost}
-use Rattle.vertical_f32.specs.Column.{windowValue}
+use Rattle.row_f32.specs.Column.{windowValue}
 use Rattle.vertical_f32.proofs.rows.rows.Statement.{statement}
 use Rattle.vertical_f32.proofs.rows.rows.Tie as tie
 
