@@ -6,7 +6,7 @@
  * a contract that decides every answer; docs/CONTRACTS.md has it in a sentence.
  *
  * Numbers beside the answer (weight, left, top, width, height, window, line, precision, infinite, written, filter, lines, windows, store, byte) are
- * always written, and are 0 on every refusal, but for the line of No. 8 and the byte of No. 13.
+ * always written, and are 0 on every refusal, but for the line of No. 8, the byte of No. 13 and the numbers of a release book.
  *
  * The contracts know one NaN. So of a NaN in a list of doubles or floats, "unchanged" promises that it stays a NaN, not that it keeps its
  * sign and payload; the compiled code does not touch such a slot, which tests/c shows bit by bit.
@@ -163,6 +163,17 @@ uint32_t mirror_read_sheet16(const uint8_t *text, size_t text_len, int16_t *weig
                              uint32_t *starts, size_t starts_len, uint32_t *sizes, size_t sizes_len,
                              int64_t *excesses, size_t excesses_len, uint32_t *filter, uint32_t *lines, uint32_t *windows,
                              uint32_t *window, uint32_t *store, uint32_t *precision, uint64_t *byte);
+
+/* The numbers of a release book, over one text of sheets of either store, end to end (docs/BOOK.md): sheets, their windows, the smallest and the largest
+ * excess (0 where there is no window), windows that fail the flat premise (131070 times the excess's size is not below 2^precision), windows with a negative
+ * weight in use. No set is kept and no slots are lent. 0, 13. No. 13: the text is not sheets to its end; the numbers are those of the sheets before the first
+ * bad one. byte is how many bytes of the text go on as sheets do: all of them where the answer is 0. */
+uint32_t mirror_book(const uint8_t *text, size_t text_len, uint64_t *sheets, uint64_t *windows, int64_t *least, int64_t *most,
+                     uint64_t *notflat, uint64_t *negative, uint64_t *byte);
+/* Any such numbers as key=value lines, into out: sheets=, windows=, least=, most=, notflat=, negative= and stopped=, which is the answer of mirror_book;
+ * written is their bytes, at most 188. 0, 11. */
+uint32_t mirror_book_lines(uint64_t sheets, uint64_t windows, int64_t least, int64_t most, uint64_t notflat, uint64_t negative, uint32_t stopped,
+                           uint8_t *out, size_t out_len, uint64_t *written);
 
 /* Offered repairs of a stored set (docs/REPAIRS.md). The judges take an offer of changed weights for it: accepted exactly where window size,
  * precision, starts and sizes are the stored ones, every weight in use is within 1 of the stored one, and every window's offered weights in

@@ -4,6 +4,7 @@
 #![deny(unsafe_op_in_unsafe_fn)]
 
 mod alpha;
+mod book;
 mod crops;
 mod numbers;
 mod passes;
@@ -18,6 +19,7 @@ mod stories;
 
 pub use alpha::{divide_alpha, divide_alpha_inplace, multiply_alpha, multiply_alpha_inplace};
 pub use alpha::{divide_alpha16, divide_alpha16_inplace, multiply_alpha16, multiply_alpha16_inplace};
+pub use book::{book, Report};
 pub use crops::{crop, fit, Centring, CropBox};
 pub use numbers::{abs, ceil, clip8, filter, floor, narrow, round, widen, Filter, FilterType, Narrowed};
 pub use passes::{vertical_f32, vertical_u16, vertical_u8, Frame};

@@ -87,6 +87,13 @@ extern "C" {
         excesses: *mut i64, excesses_len: usize, filter: *mut u32, lines: *mut u32, windows: *mut u32, window: *mut u32, store: *mut u32, precision: *mut u32, byte: *mut u64,
     ) -> u32;
 
+    pub fn mirror_book(
+        text: *const u8, text_len: usize, sheets: *mut u64, windows: *mut u64, least: *mut i64, most: *mut i64, notflat: *mut u64, negative: *mut u64, byte: *mut u64,
+    ) -> u32;
+    pub fn mirror_book_lines(
+        sheets: u64, windows: u64, least: i64, most: i64, notflat: u64, negative: u64, stopped: u32, out: *mut u8, out_len: usize, written: *mut u64,
+    ) -> u32;
+
     pub fn mirror_accept16(
         lines: u32, window: u32, precision: u32, weights: *mut i16, weights_len: usize, starts: *const u32, starts_len: usize,
         sizes: *const u32, sizes_len: usize, excesses: *mut i64, excesses_len: usize, offered_window: u32, offered_precision: u32,

@@ -310,3 +310,20 @@ fn a_pixel_tells_its_story() {
     assert_eq!(story(&[1, 0], 0, &halves, DisplayLine(0), 0, &mut text), Err(Refusal::BadSide));
     assert_eq!(text, [7; 80]);
 }
+
+#[test]
+fn sheets_are_counted_for_the_release_book() {
+    const SHEET: &[u8] = b"kind=box\nin=3\nout=1\nwindow=3\nstore=16\nprecision=16\nw0=0,3:21845,21845,21845\nexcess=-1\n";
+    const LINES: &[u8] = b"sheets=2\nwindows=2\nleast=-1\nmost=-1\nnotflat=2\nnegative=0\nstopped=0\n";
+    let twice = [SHEET, SHEET].concat();
+    let r = book(&twice);
+    assert_eq!(r, Report { sheets: 2, windows: 2, least: -1, most: -1, notflat: 2, negative: 0, stopped: 0, byte: twice.len() as u64 });
+    assert_eq!(book(&twice[..twice.len() - 1]), Report { sheets: 1, windows: 1, notflat: 1, stopped: 13, byte: twice.len() as u64 - 1, ..r });
+    assert_eq!(book(b""), Report::default());
+    let mut text = [7; 80];
+    assert_eq!(r.write(&mut text), Ok(LINES.len() as u64));
+    assert_eq!((&text[..LINES.len()], &text[LINES.len()..]), (LINES, &[7; 80][LINES.len()..]));
+    text = [7; 80];
+    assert_eq!(r.write(&mut text[..LINES.len() - 1]), Err(Refusal::NoRoom));
+    assert_eq!(text, [7; 80]);
+}

@@ -74,6 +74,7 @@ int main(void)
     check_repairs();
     check_stores();
     check_stories();
+    check_book();
     printf("checks=%d failures=%d\n", checks, failures);
     return failures != 0;
 }

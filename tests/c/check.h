@@ -48,4 +48,5 @@ void check_readers(void);
 void check_repairs(void);
 void check_stores(void);
 void check_stories(void);
+void check_book(void);
 #endif

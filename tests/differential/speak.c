@@ -628,6 +628,19 @@ static int store(char **w)
     return calls_of(w[2], &s);
 }
 
+static int book(char **w)
+{
+    uint64_t sheets = 77, windows = 77, notflat = 77, negative = 77, byte = 77, written = 77;
+    int64_t least = 77, most = 77;
+    struct list *text = read_text(w[1]), *out = text ? lend('c', "188") : NULL;
+    OR_BAD(out);
+    uint32_t stopped = mirror_book(at(text), text->count, &sheets, &windows, &least, &most, &notflat, &negative, &byte);
+    mirror_book_lines(sheets, windows, least, most, notflat, negative, stopped, at(out), out->count, &written);
+    for (uint64_t i = 0; i < written; i++)
+        printf("%02x", ((const uint8_t *)at(out))[i]);
+    return 1;
+}
+
 static int one_of(const char *w, const char *names)
 {
     size_t n = strlen(w);
@@ -676,6 +689,8 @@ static int answer(char **w, int words)
         return offer(w);
     if (words == 3 && strcmp(w[0], "store") == 0)
         return store(w);
+    if (words == 2 && strcmp(w[0], "book") == 0)
+        return book(w);
     return 0;
 }
 

@@ -5,7 +5,7 @@ usage: stored.py ORACLE TESTFLOAT FOLDER [group ..]        (no group: all of the
 
 Writes FOLDER/GROUP.in and FOLDER/GROUP.out. TESTFLOAT is the file of TestFloat's cases (`n X floor ceil round narrow`,
 `w X widened`): their answers are stored, and the oracle has to give the same. What the oracle calls `bad` has the word and the
-reason of tests/reading; of the groups `read`, `repairs`, `store`, `story` and `before` it knows nothing, and all answers are tests/reading's. The seed is fixed: the same lines every time.
+reason of tests/reading; of the groups `read`, `repairs`, `store`, `story`, `book` and `before` it knows nothing, and all answers are tests/reading's. The seed is fixed: the same lines every time.
 """
 import os
 import random
@@ -652,6 +652,35 @@ def story_group(r):
                 "story 2 1 2 4 8,8 0 2 0 1,0 0 4294967296 9", "story 2 1 2 4 8,8 0 2 0 1,0 0 0 524289", "story")
 
 
+def book_group(r):
+    """No sheet, one and several of both stores; windows about the flat premise and weights about 0; then each way to be bad, before, between and after good sheets."""
+    box, catmull = texts.sheet_text("box", 4, 3, 32, 31, [2**30, 2**30, 0] * 2, [0, 2], [2, 2], [0, 0]), texts.sheet_text("catmullrom", 3, 3, 32, 4, [-4, 24, -4], [0], [3], [0])
+    small, one = texts.sheet_text("mitchell", 9, 2, 16, 21, [-(2**15), 2**15 - 1], [7], [2], [-1 - 2**21]), texts.sheet_text("bilinear", 1, 1, 16, 14, [2**14], [0], [1], [0])
+    ends = texts.sheet_text("box", 5, 5, 32, 45, [2**31 - 1] * 5 + [-(2**31)] * 5, [0, 0], [5, 5], [5 * (2**31 - 1) - 2**45, -5 * 2**31 - 2**45])
+
+    def of(*sheets):
+        return "book %s" % (b"".join(sheets).hex() or "-")
+    yield from (of(), of(box), of(one), of(box, box), of(box, small), of(small, box), of(one, catmull, small, box), of(*BEFORE), of(ends), of(one, ends, one), of(*[one] * 40))
+    for store, precision, edge in ((16, 4, 0), (16, 17, 1), (16, 18, 2), (32, 17, 1), (32, 31, 16384)):  # the largest excess that the flat premise takes, and one more
+        for over in (edge, edge + 1, -edge, -edge - 1):
+            top, whole = 2 ** (store - 1) - 1, 2**precision + over
+            ws = [top] * (whole // top) + [whole % top]
+            yield of(one, texts.sheet_text("box", len(ws), len(ws), store, precision, ws, [0], [len(ws)], [over]), catmull)
+    for ws, n in (([16, -1], 1), ([16, -1], 2), ([0, 16], 2), ([-1, 17], 2), ([17, -1], 2), ([-1], 1), ([0], 1)):  # a negative weight in use; what a set has in idle slots is not in a sheet
+        yield of(texts.sheet_text("box", 2, 2, 32, 4, ws + [0] * (2 - len(ws)), [0], [n], [sum(ws[:n]) - 16]))
+    for bad in (one[:-1], one[1:], b"\n", b" ", b"k", b"kind=box\n", one.replace(b"=1\n", b"=01\n", 1), one.replace(b"16384", b"-0"), one.replace(b"excess=0", b"excess=1"), one.replace(b"excess=0\n", b""), one.replace(b"=16\n", b"=64\n"),
+                one.replace(b"=14", b"=22"), one.replace(b"\n", b"\r\n"), one.replace(b"bilinear", b"lanczos3"), one.replace(b"w0=0,1", b"w0=1,1"), one.replace(b"in=1", b"in=9000"), one + b"\0", small.replace(b"32767", b"32768")):
+        yield from (of(bad), of(box, bad), of(bad, box), of(small, catmull, bad, one))
+    for at in range(len(one)):  # every beginning of a sheet after another
+        yield of(catmull, one[:at])
+    for _ in range(80):
+        line = book(r)
+        while len(line) > 1600:
+            line = book(r)
+        yield line
+    yield from ("book", "book 6", "book 6B", "book  ", "book - -", "book kind", "Book -", "")
+
+
 # What `./mirror sheet mitchell 9 1.25 6.5 4 fixed 16` and the same with `adapt 32` printed while sets were still built with that filter.
 BEFORE = (
     b"kind=mitchell\nin=9\nout=4\nwindow=5\nstore=16\nprecision=15\nw0=0,4:-1024,15195,19784,-1188\nw1=2,4:-376,27075,6368,-300\nw2=3,4:-300,6368,27075,-376\nw3=5,4:-1188,19784,15195,-1024\nexcess=-1,-1,-1,-1\n",
@@ -687,7 +716,7 @@ def before_group(r):
     yield ""
 
 
-GROUPS = {"numbers": numbers, "alpha": alpha_group, "alpha16": alpha16_group, "crop": crop_group, "normalizer": normalizer, "build": build_group, "passes": passes, "sheet": sheet_group, "read": read_group, "repairs": repairs_group, "store": store_group, "story": story_group, "before": before_group}
+GROUPS = {"numbers": numbers, "alpha": alpha_group, "alpha16": alpha16_group, "crop": crop_group, "normalizer": normalizer, "build": build_group, "passes": passes, "sheet": sheet_group, "read": read_group, "repairs": repairs_group, "store": store_group, "story": story_group, "book": book_group, "before": before_group}
 
 
 def answers(oracle, lines):
@@ -703,7 +732,7 @@ def main():
         if name not in GROUPS:
             sys.exit("no group %s; there are %s" % (name, ", ".join(GROUPS)))
         lines = list(dict.fromkeys(GROUPS[name](random.Random(SEED))))
-        stored = [reading.answer(q) for q in lines] if name in ("read", "repairs", "store", "story", "before") else answers(oracle, lines)
+        stored = [reading.answer(q) for q in lines] if name in ("read", "repairs", "store", "story", "book", "before") else answers(oracle, lines)
         if name == "numbers":
             theirs = list(testfloat(vectors))
             ours = answers(oracle, [q for q, _ in theirs])

@@ -1,6 +1,7 @@
 """The protocol (docs/PROTOCOL.md): a request line in, its answer out; `bad`, the word and the reason for what is no request or past the program's buffers."""
 import re
 
+import book
 import frames
 import numbers_of_bits as numbers
 import reader
@@ -172,6 +173,7 @@ REQUESTS |= {
     "mul16": ((listed(u16), lent()), pixels(frames.multiplied16)), "div16": ((listed(u16), lent()), pixels(frames.divided16)),
     "mul16in": ((listed(u16),), pixels(frames.multiplied16)), "div16in": ((listed(u16),), pixels(frames.divided16)),
     "story": ((u32,) * 4 + (listed(i32),) + LISTS + EXCESSES + (listed(u16), u32, u32, lent(524288)), story),
+    "book": ((bytes_of,), lambda text: book.lines(text).hex()),
     "read": ((bytes_of,) + (lent(),) * 4, was_read((16, 32))), "read16": ((bytes_of,) + (lent(),) * 4, was_read((16,))),
 }
 

@@ -300,6 +300,12 @@ fn stores(line: &[u8], a: Said, out: &mut [u8]) -> Said {
     )
 }
 
+// Those that have lists of their own.
+fn before(line: &[u8], a: Said, out: &mut [u8]) -> Said {
+    let b = ask_repairs::answer(line, a, out);
+    ask_book::answer(line, b, out)
+}
+
 // The first of the groups.
 fn early(line: &[u8], a: Said, out: &mut [u8]) -> Said {
     let b = small_groups(line, a, out);
@@ -332,7 +338,7 @@ pub(crate) fn answered(s: State, buf: &[u8], out: &mut [u8]) -> usize {
     let to = p.to;
     let line = &buf[from..to];
     let a = begun(s, line, out);
-    let b = ask_repairs::answer(line, a, out);
+    let b = before(line, a, out);
     let c = early(line, b, out);
     let d = late(line, c, out);
     let e = last(line, d, out);

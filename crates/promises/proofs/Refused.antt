@@ -54,6 +54,7 @@ use Rattle.sheet.specs.Answer.{noRoom, byCase, numberOf as numberOfSheet}
 use Rattle.sheet.specs.Text.{sheetText}
 use Rattle.vertical.specs.Frame.{badSize, badFrame}
 use Rattle.windows.specs.Store.{store32}
+use Rattle.book_text.specs.Text.{reportText}
 use Rattle.story.specs.declared.Told.the-variants as told
 use Rattle.story.specs.Answer.{badPlace, byCase as storyByCase, textOf, numberOf as numberOfStory}
 use Rattle.promises.specs.RefusedUnchanged.{Not, Zeroed, RefusedUnchanged}
@@ -182,4 +183,5 @@ refused-unchanged = record {
   accept = untouched;
   offer = unwritten;
   story = λ s src row i j out n0. story-kept (badSize (s .set .layout .lines) (windows (s .set .layout)) row) (badStored s store32) (badFrame (length src) (s .set .layout .lines) row) (badPlace (windows (s .set .layout)) row i j) (noRoom (length out) (length (textOf s src row i j))) (length (textOf s src row i j)) _ out n0;
+  report = λ r out n0. sheet-kept false false (noRoom (length out) (length (reportText r))) (length (reportText r)) _ out n0;
 }

@@ -30,6 +30,8 @@ use Rattle.vertical_u8.specs.U8.{passedU8, writtenU8}
 use Rattle.repairs.specs.Offer.{Offer}
 use Rattle.repairs.specs.Answer.{acceptedOf, numberOf as numberOfAccepted, weightsOf as weightsTaken, excessesOf as excessesTaken, offeredOf, offeredNumber, writtenOf as offerIn}
 use Rattle.sheet.specs.Answer.{answerOf, numberOf as numberOfSheet, writtenOf as sheetIn}
+use Rattle.book_numbers.specs.declared.Report.{Report}
+use Rattle.book_text.specs.Text.{answerOf as answerOfReport, writtenOf as reportIn}
 use Rattle.story.specs.Answer.{answerOf as answerOfStory, numberOf as numberOfStory, writtenOf as storyIn}
 
 -- a number other than that
@@ -70,3 +72,4 @@ pub record RefusedUnchanged : Type 0 where
   pub accept : (store : Store) (s : Stored) (o : Offer) → Not 0 (numberOfAccepted (acceptedOf store s o)) → (weightsTaken store s o ≡ s .set .weights) × (excessesTaken store s o ≡ s .excesses)
   pub offer : (store : Store) (s : Stored) (out : List ℤ) → Not 0 (offeredNumber (offeredOf store s (length out))) → offerIn store s out ≡ out
   pub story : (s : Stored) (src : List ℕ) (row i j : ℕ) (out : List ℕ) → Not 0 (numberOfStory (answerOfStory s src row i j (length out))) → storyIn s src row i j out ≡ out
+  pub report : (r : Report) (out : List ℕ) → Not 0 (numberOfSheet (answerOfReport r (length out))) → reportIn r out ≡ out

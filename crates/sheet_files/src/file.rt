@@ -1,4 +1,4 @@
-// The bytes of the file that argument 1 names.
+// The bytes of the file that an argument names.
 ghost use Prim.Native.Nat.{_-_, _≤_};
 ghost use lib.ListN.{length};
 
@@ -81,21 +81,17 @@ fn goes_on(fd: i32) -> bool {
     0 < got
 }
 
-// The descriptor of the file, below 0 where it cannot be opened.
-fn opened() -> i32 {
+// The descriptor of the file that argument i names, below 0 where it cannot be opened.
+fn opened(i: usize) -> i32 {
     let mut name = [0u8; 4096];
-    let k = os::arg(1, &mut name);
+    let k = os::arg(i, &mut name);
     os::open_read(&name[..k])
 }
 
-// The file's bytes, in the beginning of the list.
-pub(crate) fn read(buf: &mut [u8]) -> Input
+// The bytes of an open file.
+fn whole(fd: i32, buf: &mut [u8]) -> Input
     ensures { λ r. ⌜ r .n ≤ length (now (buf .entry)) ⌝ }
 {
-    let fd = opened();
-    if fd < 0 {
-        return failed();
-    }
     let part = fill(fd, buf);
     if part.failed {
         return failed();
@@ -110,4 +106,17 @@ pub(crate) fn read(buf: &mut [u8]) -> Input
         n: part.n,
         ends: Ends::Whole,
     }
+}
+
+// The bytes of the file that argument i names, in the beginning of the list. It is closed again, so that a program may read any number of files.
+pub(crate) fn read(i: usize, buf: &mut [u8]) -> Input
+    ensures { λ r. ⌜ r .n ≤ length (now (buf .entry)) ⌝ }
+{
+    let fd = opened(i);
+    if fd < 0 {
+        return failed();
+    }
+    let got = whole(fd, buf);
+    libc::close(fd);
+    got
 }

@@ -1,4 +1,4 @@
-// `sheet_files`: a sheet's text in the file that a program's one argument names, or the first of several, for the programs that take such a file. `file` brings the bytes, `place` and
+// `sheet_files`: a sheet's text in the file that a program's one argument names, or one of several, for the programs that take such a file. `file` brings the bytes, `place` and
 // `marked` say where a text that is no sheet stops being one, `unread` why no text was judged; `streams` are the answer and the reason for a person. No
 // contract says what is read or printed, since none could speak of the streams; every function is safe at every argument.
 mod file;
@@ -10,6 +10,8 @@ mod unread;
 use file::Ends;
 use file::Input;
 pub use marked::refused;
+pub use marked::stopped;
+pub use unread::missing;
 pub use unread::too_large;
 ghost use Prim.Native.Nat.{_≤_};
 ghost use lib.ListN.{length};
@@ -27,8 +29,8 @@ fn none() -> Brought
     Brought { n: 0, whole: false }
 }
 
-// What was read of the file.
-fn told(got: Input) -> Brought
+// What was read of the file that argument i names.
+fn told(i: usize, got: Input) -> Brought
     ensures { λ r. ⌜ r .n ≤ got .n ⌝ }
 {
     let ends = got.ends;
@@ -37,17 +39,17 @@ fn told(got: Input) -> Brought
             n: got.n,
             whole: true,
         },
-        Ends::Failed => unread::failed(),
-        Ends::Long => unread::long(),
+        Ends::Failed => unread::failed(i),
+        Ends::Long => unread::long(i),
     }
     none()
 }
 
-// The bytes of the file that the first argument names, whatever others there are, in the beginning of the list.
-pub fn first_text(buf: &mut [u8]) -> Brought
+// The bytes of the file that argument i names, whatever others there are, in the beginning of the list.
+pub fn text_of(i: usize, buf: &mut [u8]) -> Brought
     ensures { λ r. ⌜ r .n ≤ length (now (buf .entry)) ⌝ }
 {
-    told(file::read(buf))
+    told(i, file::read(i, buf))
 }
 
 // The same where that is the only argument.
@@ -62,5 +64,5 @@ pub fn text(buf: &mut [u8]) -> Brought
         unread::too_many();
         return none();
     }
-    first_text(buf)
+    text_of(1, buf)
 }

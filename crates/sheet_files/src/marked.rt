@@ -1,7 +1,8 @@
-// What is said of a text that is no sheet: the number, the byte, line and column, then the line itself with a mark under the place.
+// What is said of a text that is no sheet: the number, the byte, line and column, then the line itself with a mark under the place. Of one file among several, the place in words.
 use crate::place;
 use crate::place::Place;
 use crate::streams::err;
+use crate::streams::err_name;
 use crate::streams::err_number;
 use crate::streams::out;
 use crate::streams::out_byte;
@@ -27,6 +28,23 @@ pub fn refused(text: &[u8], byte: u64) {
 // The reason in words.
 fn reason(text: &[u8], line: u64, column: u64, at: usize) {
     err(b"no sheet: it begins as one up to the mark at line ");
+    err_place(text, line, column, at);
+}
+
+// The first bad sheet of the file that argument i names: the byte of the file, line and column.
+pub fn stopped(i: usize, text: &[u8], byte: u64) {
+    let p = place::of(text, byte);
+    let column = (p.at - p.from) as u64 + 1;
+    err(b"no sheet in ");
+    err_name(i);
+    err(b": it begins as one up to byte ");
+    err_number(byte);
+    err(b", line ");
+    err_place(text, p.line, column, p.at);
+}
+
+// Line and column, and what is there.
+fn err_place(text: &[u8], line: u64, column: u64, at: usize) {
     err_number(line);
     err(b", column ");
     err_number(column);

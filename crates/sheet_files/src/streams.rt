@@ -27,9 +27,9 @@ pub fn err_number(n: u64) {
     io::print_decimal(STDERR_FILENO, n);
 }
 
-// The file's name, as it was given.
-pub fn err_name() {
+// The name of the file that argument i names, as it was given.
+pub fn err_name(i: usize) {
     let mut name = [0u8; 4096];
-    let n = os::arg(1, &mut name);
+    let n = os::arg(i, &mut name);
     io::write_all(STDERR_FILENO, &name[..n]);
 }

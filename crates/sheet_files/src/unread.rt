@@ -4,7 +4,7 @@ use crate::streams::err_name;
 use crate::streams::out;
 
 // No argument.
-pub(crate) fn missing() {
+pub fn missing() {
     out(b"unread=file why=missing\n");
     err(b"the name of a file is missing\n");
 }
@@ -16,19 +16,17 @@ pub(crate) fn too_many() {
 }
 
 // The file could not be opened or read. What the system said stands behind its name.
-pub(crate) fn failed() {
-    let mut name = [0u8; 4096];
-    let n = os::arg(1, &mut name);
+pub(crate) fn failed(i: usize) {
     out(b"unread=file why=unreadable\n");
     err(b"the file cannot be read: ");
-    err(&name[..n]);
+    err_name(i);
     err(b"\n");
 }
 
 // More bytes than there is room for.
-pub(crate) fn long() {
+pub(crate) fn long(i: usize) {
     out(b"unread=file why=long limit=524288\n");
-    err_name();
+    err_name(i);
     err(b" has more bytes than this program takes: 524288\n");
 }
 

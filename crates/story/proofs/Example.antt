@@ -7,12 +7,13 @@ use lib.IntN.{pos}
 use lib.ListN.{length}
 use Rattle.integers.specs.Sums.{sum, total, shifted, rounded, clipped}
 use Rattle.text.specs.Text.{digitCount, decimal, signed, fieldText, lineText}
+use Rattle.signed_lines.specs.Lines.{numberText}
 use Rattle.windows.specs.Set.{excess, weight, sample}
 use Rattle.vertical.specs.Example.{set4, sharp, even}
 use Rattle.vertical.specs.Frame.{frame}
 use Rattle.refusal.specs.declared.Refusal.the-variants.{DoesNotFit, NoRoom}
 use Rattle.story_text.specs.Keys.{wordLow, wordHigh, wordNone}
-use Rattle.story_text.specs.Text.{partText, cameraText, linesText, numberText, clipWord, clipText, endText, windowText}
+use Rattle.story_text.specs.Text.{partText, cameraText, linesText, clipWord, clipText, endText, windowText}
 use Rattle.story.specs.declared.Told.the-variants.{Written, Refused}
 use Rattle.story.specs.Answer.{byCase, textOf, answerOf}
 

@@ -12,8 +12,9 @@ use Rattle.text.specs.Text.{signed, fieldText, lineText}
 use Rattle.windows.specs.Set.{Stored, start, size}
 use Rattle.vertical.specs.Frame.{frame}
 use Rattle.vertical.specs.U16.{valueAt}
+use Rattle.signed_lines.specs.Lines.{numberText}
 use Rattle.story_text.specs.Keys.{keyTotal, keyHalf, keyShifted, keyClip, keyFinal}
-use Rattle.story_text.specs.Text.{cameraText, linesText, numberText, clipWord, clipText, endText, windowText}
+use Rattle.story_text.specs.Text.{cameraText, linesText, clipWord, clipText, endText, windowText}
 use Rattle.story.specs.Answer.{textOf}
 use Rattle.story.specs.Story.{rowsOf, cameraRow, Named, weightOf, sampleOf, productOf, totalOf, shiftedOf, storyRows}
 use Rattle.story.proofs.RowLaws.{cut-all, cut-five, plain-append, plain-signed, plain-field, plain-camera, plain-word}

@@ -10,9 +10,10 @@ use lib.Signed.{ltZ}
 use Rattle.integers.specs.Sums.{total, rounded, value}
 use Rattle.text.specs.Text.{reached, signed, fieldText, lineText}
 use Rattle.text.proofs.TextLaws.{reached-whole, signed-small, joined-small, field-small, line-small}
+use Rattle.signed_lines.proofs.LineLaws.{number-small}
 use Rattle.sheet.specs.Keys.{comma, newline}
 use Rattle.story_text.specs.Keys.{keyLine, keyTotal, keyHalf, keyShifted, keyClip, keyFinal, wordLow, wordHigh, wordNone}
-use Rattle.story_text.specs.Text.{product, partText, cameraText, cameraAt, linesText, numberText, clipWord, clipText, endText, windowText}
+use Rattle.story_text.specs.Text.{product, partText, cameraText, cameraAt, linesText, clipWord, clipText, endText, windowText}
 
 part-small : (z : ℤ) → length (partText z) ≤ 22
 unfolding partText
@@ -25,10 +26,6 @@ camera-small line w s = simp length-append (omega (arith, field-small keyLine li
 lines-small : (start : ℕ) (w : ℕ → ℤ) (s : ℕ → ℕ) (n : ℕ) → length (linesText start w s n) ≤ n * 100
 unfolding linesText
 lines-small start w s n = joined-small (cameraAt start w s) 100 n (λ k l. camera-small (start + k) (w k) (s k))
-
-number-small : (key : List ℕ) (z : ℤ) → length (numberText key z) ≤ length key + 22
-unfolding numberText
-number-small key z = simp length-append (omega (arith, signed-small z))
 
 three : (a b : Bool) → length (cond a wordLow (cond b wordHigh wordNone)) ≤ 4
 three true b = omega arith

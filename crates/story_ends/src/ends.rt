@@ -3,11 +3,11 @@ use clips::clip16;
 use row_u16::half;
 use row_u16::shift;
 use sheet::keys::NEWLINE;
+use signed_lines::put_signed_line;
 use story_text::keys;
 use text::put;
 use text::put_byte;
 use text::put_line;
-use text::put_signed;
 ghost use mathlib.Core.Path.{_≡_};
 ghost use Prim.Native.Nat.{_-_, _^_, _≤_, _<_};
 ghost use lib.IntN.{natAbs, _+ℤ_};
@@ -15,17 +15,7 @@ ghost use lib.ListN.{length};
 ghost use lib.Signed.{shrZ};
 ghost use Rattle.integers.specs.Sums.{shifted as shiftedOf, clipped};
 ghost use Rattle.text.specs.Text.{laid, reached};
-ghost use Rattle.story_text.specs.Text.{numberText, clipWord, clipText, endText};
-
-// A key, a number with its sign and a newline.
-fn put_number(key: &[u8], v: i64, at: usize, out: &mut [u8]) -> usize
-    ensures answer { λ r. ⌜ r ≡ reached at (length (numberText (now (key .entry)) v)) ⌝ }
-    ensures written { λ _. ⌜ now (out .exit) ≡ laid (now (out .entry)) at (numberText (now (key .entry)) v) ⌝ }
-{
-    let a = put(key, at, out);
-    let b = put_signed(v, a, out);
-    put_byte(NEWLINE, b, out)
-}
+ghost use Rattle.story_text.specs.Text.{clipWord, clipText, endText};
 
 // The word of the clip to 0 .. 65535. A value of exactly 65535 is not cut.
 fn put_word(v: i64, at: usize, out: &mut [u8]) -> usize
@@ -67,9 +57,9 @@ pub(crate) fn put_end(t: i64, p: u32, at: usize, out: &mut [u8]) -> usize
 {
     let h = half(p);
     let v = shifted(t, h, p);
-    let a = put_number(&keys::TOTAL, t, at, out);
-    let b = put_number(&keys::HALF, h, a, out);
-    let c = put_number(&keys::SHIFTED, v, b, out);
+    let a = put_signed_line(&keys::TOTAL, t, at, out);
+    let b = put_signed_line(&keys::HALF, h, a, out);
+    let c = put_signed_line(&keys::SHIFTED, v, b, out);
     let d = put_clip(v, c, out);
     put_line(&keys::FINAL, clip16(v) as u64, d, out)
 }

@@ -7,6 +7,7 @@ use lib.IntN.{ℤ, pos, _*ℤ_}
 use lib.Signed.{ltZ}
 use Rattle.integers.specs.Sums.{total, rounded, value}
 use Rattle.text.specs.Text.{joined, signed, fieldText, lineText}
+use Rattle.signed_lines.specs.Lines.{numberText}
 use Rattle.sheet.specs.Keys.{comma, newline}
 use Rattle.windows.specs.Set.{Stored, start, size, weight, sample}
 use Rattle.story_text.specs.Keys.{keyLine, keyTotal, keyHalf, keyShifted, keyClip, keyFinal, wordLow, wordHigh, wordNone}
@@ -30,10 +31,6 @@ cameraAt start w s k = cameraText (start + k) (w k) (s k)
 -- the n camera lines of a window, in line order
 unfoldable pub linesText : ℕ → (ℕ → ℤ) → (ℕ → ℕ) → ℕ → List ℕ
 linesText start w s n = joined (cameraAt start w s) n
-
--- a key, a number with its sign and a newline
-unfoldable pub numberText : List ℕ → ℤ → List ℕ
-numberText key z = key ++ signed z ++ newline
 
 -- which side the clip to 0 .. M cut off: low below 0, high above M, else none
 unfoldable pub clipWord : ℕ → ℤ → List ℕ

@@ -29,7 +29,7 @@ pub fn run() {
 // Reads the sheet's file, and what it has.
 fn answer(text: &mut [u8]) {
     let a: usize = 0;
-    let got = sheet_files::first_text(text);
+    let got = sheet_files::text_of(1, text);
     let n = got.n;
     if got.whole {
         judge(&text[a..n]);

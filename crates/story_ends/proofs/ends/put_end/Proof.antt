@@ -12,8 +12,9 @@ use Rattle.text.specs.Text.{lineText}
 use Rattle.text.proofs.TextLaws.{laid-none, laid-then}
 use Rattle.vertical.proofs.ReadBack.{back64 as back}
 use Rattle.row_u16.proofs.Sizes.{half-size}
+use Rattle.signed_lines.specs.Lines.{numberText}
 use Rattle.story_text.specs.Keys.{keyTotal, keyHalf, keyShifted, keyFinal}
-use Rattle.story_text.specs.Text.{numberText, clipText, endText}
+use Rattle.story_text.specs.Text.{clipText, endText}
 use Rattle.story_ends.proofs.ends.put_end.Statement.{statement}
 use Rattle.story_ends.proofs.ends.put_end.Tie as tie
 
@@ -26,23 +27,23 @@ shifted-requires c κs =
     let small = half-size (start .args .p) (start .pre .1) (back (c .half .ok) ∙ c .half .ensures) in
     (omega (arith, start .pre .1), rw (toZ-ofZ (start .fits .t)) (start .pre .2), omega (arith, small))
 
-slice-aggregate-put-number : tie.Need-slice-aggregate-put-number
-slice-aggregate-put-number c = search needs
+slice-aggregate-put-signed-line : tie.Need-slice-aggregate-put-signed-line
+slice-aggregate-put-signed-line c = search needs
 
-put-number-requires : tie.Need-put-number-requires
-put-number-requires c κs = search needs
+put-signed-line-requires : tie.Need-put-signed-line-requires
+put-signed-line-requires c κs = search needs
 
-slice-aggregate-put-number-2 : tie.Need-slice-aggregate-put-number-2
-slice-aggregate-put-number-2 c = search needs
+slice-aggregate-put-signed-line-2 : tie.Need-slice-aggregate-put-signed-line-2
+slice-aggregate-put-signed-line-2 c = search needs
 
-put-number-requires-2 : tie.Need-put-number-requires-2
-put-number-requires-2 c κs = search needs
+put-signed-line-requires-2 : tie.Need-put-signed-line-requires-2
+put-signed-line-requires-2 c κs = search needs
 
-slice-aggregate-put-number-3 : tie.Need-slice-aggregate-put-number-3
-slice-aggregate-put-number-3 c = search needs
+slice-aggregate-put-signed-line-3 : tie.Need-slice-aggregate-put-signed-line-3
+slice-aggregate-put-signed-line-3 c = search needs
 
-put-number-requires-3 : tie.Need-put-number-requires-3
-put-number-requires-3 c κs = search needs
+put-signed-line-requires-3 : tie.Need-put-signed-line-requires-3
+put-signed-line-requires-3 c κs = search needs
 
 put-clip-requires : tie.Need-put-clip-requires
 put-clip-requires c κs = search needs
@@ -74,9 +75,9 @@ returns c =
     let moved = c .before .before .before .before .before .before .before .before .before .before .before .before .before .before .before .before .before .before .before .before .before .before .before .before .before .shifted in
     let shift : toZ w64 (ofZ w64 (moved .result)) ≡ value = back (moved .ok) ∙ moved .ensures ∙ rw (total, half) in
     let cut = c .before .before .before .before .clip16 .ensures ∙ ap (clipped 65535) shift in
-    let first = c .before .before .before .before .before .before .before .before .before .before .before .before .before .before .before .before .before .before .before .before .before .before .put-number .ensures in
-    let second = c .before .before .before .before .before .before .before .before .before .before .before .before .before .before .before .before .before .put-number2 .ensures in
-    let third = c .before .before .before .before .before .before .before .before .before .before .before .before .put-number3 .ensures in
+    let first = c .before .before .before .before .before .before .before .before .before .before .before .before .before .before .before .before .before .before .before .before .before .before .put-signed-line .ensures in
+    let second = c .before .before .before .before .before .before .before .before .before .before .before .before .before .before .before .before .before .put-signed-line2 .ensures in
+    let third = c .before .before .before .before .before .before .before .before .before .before .before .before .put-signed-line3 .ensures in
     let fourth = c .before .before .before .before .before .before .before .before .put-clip .ensures in
     let fifth = c .before .before .put-line .ensures in
     let l1 = laid-then (numberText keyTotal (a .t)) (laid-none (a .at) (a .out .now) (search needs) (search needs)) (first .0 ∙ rw total) (first .1 ∙ rw total) in
@@ -92,12 +93,12 @@ put-end-spec =
     (tie.spec
     half-requires
     shifted-requires
-    slice-aggregate-put-number
-    put-number-requires
-    slice-aggregate-put-number-2
-    put-number-requires-2
-    slice-aggregate-put-number-3
-    put-number-requires-3
+    slice-aggregate-put-signed-line
+    put-signed-line-requires
+    slice-aggregate-put-signed-line-2
+    put-signed-line-requires-2
+    slice-aggregate-put-signed-line-3
+    put-signed-line-requires-3
     put-clip-requires
     slice-aggregate-put-line
     clip16-requires

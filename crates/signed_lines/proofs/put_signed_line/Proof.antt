@@ -1,12 +1,12 @@
--- `ends::put_number` meets its contract: the key, the number with its sign and a newline. Assumes nothing.
+-- `put_signed_line` meets its contract: the key, the number with its sign and a newline. Assumes nothing.
 use mathlib.Core.Path.{_∙_}
 use mir.Facts.{toZ-ofZ}
 use borrow.Author.Needs.{needs}
 use Rattle.text.specs.Text.{signed}
 use Rattle.text.proofs.TextLaws.{laid-none, laid-then, laid-byte}
-use Rattle.story_text.specs.Text.{numberText}
-use Rattle.story_ends.proofs.ends.put_number.Statement.{statement}
-use Rattle.story_ends.proofs.ends.put_number.Tie as tie
+use Rattle.signed_lines.specs.Lines.{numberText}
+use Rattle.signed_lines.proofs.put_signed_line.Statement.{statement}
+use Rattle.signed_lines.proofs.put_signed_line.Tie as tie
 
 put-requires : tie.Need-put-requires
 put-requires c κs = search needs
@@ -34,6 +34,6 @@ returns c =
     let l3 = laid-byte 10 l2 (end .0) (end .1) in
     (l3 .place, l3 .is)
 
-pub put-number-spec : {M : Type 1} → statement M
-put-number-spec =
+pub put-signed-line-spec : {M : Type 1} → statement M
+put-signed-line-spec =
     tie.close (tie.spec put-requires put-signed-requires put-byte-requires same-length returns)

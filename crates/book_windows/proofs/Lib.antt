@@ -1,0 +1,3 @@
+pub mod SignsLaws
+pub mod CountLaws
+pub mod SetMarks
