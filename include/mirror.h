@@ -116,6 +116,16 @@ uint32_t mirror_vertical_f32(const float *src, size_t src_len, uint32_t lines, u
                              const uint32_t *sizes, size_t sizes_len, uint32_t window,
                              float *out, size_t out_len, uint32_t *infinite);
 
+/* The pass along the rows, for pixels of 1 to 4 samples: rows first .. first + count - 1 of `rows` rows of `row` samples. The set's windows are
+ * over the row / components pixels of a row; out has, row by row, a pixel for each window, so component k of window i in the y-th row of the range is
+ * out[((y x windows) + i) x components + k]. 0, 1, 10. No. 1: components outside 1 to 4, or a row that is no whole number of pixels. Else 1 and 10 as for
+ * mirror_vertical_u16 over the frame with rows and columns exchanged: lines row / components, row rows x components (at most 32768), columns
+ * first x components and count x components. */
+uint32_t mirror_horizontal_u16(const uint16_t *src, size_t src_len, uint32_t components, uint32_t rows, uint32_t row, uint32_t first,
+                               uint32_t count, const int32_t *weights, size_t weights_len, const uint32_t *starts, size_t starts_len,
+                               const uint32_t *sizes, size_t sizes_len, const int64_t *excesses, size_t excesses_len,
+                               uint32_t window, uint32_t precision, uint16_t *out, size_t out_len);
+
 /* Colours times or over alpha, pixels of four bytes, alpha last and kept. 0, 10: lengths not equal, or no multiple of 4. */
 uint32_t mirror_multiply_u8x4(const uint8_t *src, size_t src_len, uint8_t *dst, size_t dst_len);
 uint32_t mirror_multiply_u8x4_inplace(uint8_t *pixels, size_t len);

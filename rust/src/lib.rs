@@ -22,7 +22,7 @@ pub use alpha::{divide_alpha16, divide_alpha16_inplace, multiply_alpha16, multip
 pub use book::{book, Report};
 pub use crops::{crop, fit, Centring, CropBox};
 pub use numbers::{abs, ceil, clip8, filter, floor, narrow, round, widen, Filter, FilterType, Narrowed};
-pub use passes::{vertical_f32, vertical_u16, vertical_u8, Frame};
+pub use passes::{horizontal_u16, vertical_f32, vertical_u16, vertical_u8, Frame, PixelFrame};
 pub use readers::{read_sheet, read_sheet16, Head};
 pub use refusal::Refusal;
 pub use repairs::{accept16, accept32, offer16, offer32, Offer, Repairable};

@@ -52,6 +52,11 @@ extern "C" {
         weights: *const f64, weights_len: usize, starts: *const u32, starts_len: usize,
         sizes: *const u32, sizes_len: usize, window: u32, out: *mut f32, out_len: usize, infinite: *mut u32,
     ) -> u32;
+    pub fn mirror_horizontal_u16(
+        src: *const u16, src_len: usize, components: u32, rows: u32, row: u32, first: u32, count: u32,
+        weights: *const i32, weights_len: usize, starts: *const u32, starts_len: usize,
+        sizes: *const u32, sizes_len: usize, excesses: *const i64, excesses_len: usize, window: u32, precision: u32, out: *mut u16, out_len: usize,
+    ) -> u32;
 
     pub fn mirror_multiply_u8x4(src: *const u8, src_len: usize, dst: *mut u8, dst_len: usize) -> u32;
     pub fn mirror_multiply_u8x4_inplace(pixels: *mut u8, len: usize) -> u32;

@@ -327,3 +327,17 @@ fn sheets_are_counted_for_the_release_book() {
     assert_eq!(r.write(&mut text[..LINES.len() - 1]), Err(Refusal::NoRoom));
     assert_eq!(text, [7; 80]);
 }
+
+#[test]
+fn sideways_goes_along_the_rows() {
+    let samples = [1, 2, 30, 40, 500, 600, 7, 8, 90, 100, 1100, 1200];
+    let over = [0, 0];
+    let (starts, sizes) = ([CameraLine(0), CameraLine(1)], [2, 2]);
+    let both = Stored { set: Set { lines: 3, window: 2, weights: &[8, 8, -4, 20], starts: &starts, sizes: &sizes }, precision: 4, excesses: &over };
+    let frame = |components, first, count| PixelFrame { samples: &samples, components, rows: 2, row: 6, first, count };
+    let (mut whole, mut second) = ([7; 8], [7; 4]);
+    assert_eq!((horizontal_u16(&frame(2, 0, 2), &both, &mut whole), whole), (Ok(()), [16, 21, 618, 740, 49, 54, 1353, 1475]));
+    assert_eq!((horizontal_u16(&frame(2, 1, 1), &both, &mut second), second), (Ok(()), [49, 54, 1353, 1475]));
+    assert_eq!((horizontal_u16(&frame(5, 0, 2), &both, &mut whole), horizontal_u16(&frame(4, 0, 2), &both, &mut whole)), (Err(Refusal::BadSide), Err(Refusal::BadSide)));
+    assert_eq!((horizontal_u16(&frame(2, 2, 1), &both, &mut second), second), (Err(Refusal::DoesNotFit), [49, 54, 1353, 1475]));
+}

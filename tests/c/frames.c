@@ -51,6 +51,39 @@ static void check_u16(void)
     CHECK(EXCESS16(odd, 1) == MIRROR_DOES_NOT_FIT && EXCESS16(even, 0) == MIRROR_DOES_NOT_FIT && EXCESS16(even, 2) == MIRROR_DOES_NOT_FIT && UNCHANGED(part));
 }
 
+static void check_sideways(void)
+{
+    static const int32_t weights[] = {8, 8, -4, 20};
+    static const uint32_t starts[] = {0, 1}, sizes[] = {2, 2};
+    static const uint16_t frame[] = {1, 2, 30, 40, 500, 600, 7, 8, 90, 100, 1100, 1200}, first[] = {16, 21, 618, 740}, second[] = {49, 54, 1353, 1475};
+    LENT(uint16_t, whole, 8);
+    LENT(uint16_t, part, 4);
+#define SIDEWAYS(src, components, rows, row, first, count, slots, excesses, n, precision, ...) \
+    mirror_horizontal_u16(frame, src, components, rows, row, first, count, weights, slots, starts, 2, sizes, 2, excesses, n, 2, precision, __VA_ARGS__)
+    /* row by row, pixel by pixel; a range of rows gives those rows of the whole */
+    CHECK(SIDEWAYS(12, 2, 2, 6, 0, 2, 4, even, 2, 4, LIST(whole)) == MIRROR_DONE && KEPT_FROM(whole, 8));
+    CHECK(memcmp(whole.at, first, sizeof first) == 0 && memcmp(whole.at + 4, second, sizeof second) == 0);
+    CHECK(SIDEWAYS(12, 2, 2, 6, 1, 1, 4, even, 2, 4, LIST(part)) == MIRROR_DONE && memcmp(part.at, second, sizeof second) == 0 && KEPT_FROM(part, 4));
+    memset(&part, FILL, sizeof part);
+#define REFUSED_SIDEWAYS(number, src, components, rows, row, first, count, slots, precision, room) \
+    CHECK(SIDEWAYS(src, components, rows, row, first, count, slots, even, 2, precision, part.at, room) == (number) && UNCHANGED(part))
+    REFUSED_SIDEWAYS(MIRROR_DONE, 12, 2, 2, 6, 2, 0, 4, 4, 0);
+    REFUSED_SIDEWAYS(MIRROR_BAD_SIDE, 12, 0, 2, 6, 1, 1, 4, 4, 4);
+    REFUSED_SIDEWAYS(MIRROR_BAD_SIDE, 12, 5, 2, 6, 1, 1, 4, 4, 4);
+    REFUSED_SIDEWAYS(MIRROR_BAD_SIDE, 12, 4, 2, 6, 1, 1, 4, 4, 4);
+    REFUSED_SIDEWAYS(MIRROR_BAD_SIDE, 12, 2, 0, 6, 1, 1, 4, 4, 4);
+    REFUSED_SIDEWAYS(MIRROR_BAD_SIDE, 12, 2, 16385, 6, 1, 1, 4, 4, 4);
+    REFUSED_SIDEWAYS(MIRROR_BAD_SIDE, 12, 2, UINT32_MAX, 6, 1, 1, 4, 4, 4);
+    REFUSED_SIDEWAYS(MIRROR_DOES_NOT_FIT, 11, 2, 2, 6, 1, 1, 4, 4, 4);
+    REFUSED_SIDEWAYS(MIRROR_DOES_NOT_FIT, 12, 2, 2, 6, 2, 1, 4, 4, 4);
+    REFUSED_SIDEWAYS(MIRROR_DOES_NOT_FIT, 12, 2, 2, 6, UINT32_MAX, 1, 4, 4, 4);
+    REFUSED_SIDEWAYS(MIRROR_DOES_NOT_FIT, 12, 2, 2, 6, 0, UINT32_MAX, 4, 4, 4);
+    REFUSED_SIDEWAYS(MIRROR_DOES_NOT_FIT, 12, 2, 2, 6, 1, 1, 3, 4, 4);
+    REFUSED_SIDEWAYS(MIRROR_DOES_NOT_FIT, 12, 2, 2, 6, 1, 1, 4, 46, 4);
+    REFUSED_SIDEWAYS(MIRROR_DOES_NOT_FIT, 12, 2, 2, 6, 1, 1, 4, 4, 3);
+    CHECK(SIDEWAYS(12, 2, 2, 6, 1, 1, 4, even, 1, 4, LIST(part)) == MIRROR_DOES_NOT_FIT && UNCHANGED(part));
+}
+
 static void check_u8(void)
 {
     static const int16_t sharp[] = {-4, 24, -4}, halves[] = {8, 8};
@@ -134,6 +167,7 @@ static void check_f32(void)
 void check_passes(void)
 {
     check_u16();
+    check_sideways();
     check_u8();
     check_f32();
 }

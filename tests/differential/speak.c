@@ -361,6 +361,20 @@ static int pass8(char **w)
     return 1;
 }
 
+static int sideways(char **w)
+{
+    uint32_t n[7];
+    for (int i = 0; i < 7; i++)
+        OR_BAD(u32_of(w[i + 1], &n[i]));
+    struct list *ws = read_list('i', w[8], 1), *starts = ws ? read_list('u', w[9], 1) : NULL, *sizes = starts ? read_list('u', w[10], 1) : NULL;
+    struct list *over = sizes ? read_list('q', w[11], 1) : NULL, *src = over ? read_list('w', w[12], 1) : NULL, *out = src ? lend('w', w[13]) : NULL;
+    OR_BAD(out);
+    printf("%" PRIu32, mirror_horizontal_u16(at(src), src->count, n[0], n[1], n[2], n[3], n[4], at(ws), ws->count, at(starts), starts->count, at(sizes),
+                                             sizes->count, at(over), over->count, n[5], n[6], at(out), out->count));
+    show('w', out);
+    return 1;
+}
+
 static int alpha(char **w, int words)
 {
     int divide = w[0][0] == 'd', in_place = words == 2;
@@ -671,6 +685,8 @@ static int answer(char **w, int words)
         return pass(w, 0);
     if (words == 13 && strcmp(w[0], "u8pass") == 0)
         return pass8(w);
+    if (words == 14 && strcmp(w[0], "sideways") == 0)
+        return sideways(w);
     if (words == 11 && strcmp(w[0], "f32pass") == 0)
         return pass(w, 1);
     if ((words == 3 && one_of(w[0], "mul8 div8")) || (words == 2 && one_of(w[0], "mul8in div8in")))

@@ -5,7 +5,7 @@ usage: stored.py ORACLE TESTFLOAT FOLDER [group ..]        (no group: all of the
 
 Writes FOLDER/GROUP.in and FOLDER/GROUP.out. TESTFLOAT is the file of TestFloat's cases (`n X floor ceil round narrow`,
 `w X widened`): their answers are stored, and the oracle has to give the same. What the oracle calls `bad` has the word and the
-reason of tests/reading; of the groups `read`, `repairs`, `store`, `story`, `book` and `before` it knows nothing, and all answers are tests/reading's. The seed is fixed: the same lines every time.
+reason of tests/reading; of the groups `read`, `repairs`, `store`, `story`, `book`, `before`, `ringing` and `sideways` it knows nothing, and all answers are tests/reading's. The seed is fixed: the same lines every time.
 """
 import os
 import random
@@ -716,7 +716,33 @@ def before_group(r):
     yield ""
 
 
-GROUPS = {"numbers": numbers, "alpha": alpha_group, "alpha16": alpha16_group, "crop": crop_group, "normalizer": normalizer, "build": build_group, "passes": passes, "sheet": sheet_group, "read": read_group, "repairs": repairs_group, "store": store_group, "story": story_group, "book": book_group, "before": before_group}
+# The CatmullRom set of 6 camera lines to 4 in both stores, whose first window rings (docs/PROMISES.md).
+RINGING = (
+    ("u16pass", "7 31 1407331517,844398910,-86872316,-17374463,0,0,0,-82216066,799140163,1331900272,187452631,-88793351,0,0,-88793351,187452631,1331900272,799140163,-82216066,0,0,-17374463,-86872316,844398910,1407331517,0,0,0 0,0,1,2 4,5,5,4 0,1,1,0"),
+    ("u8pass", "7 15 21474,12885,-1326,-265,0,0,0,-1255,12194,20323,2860,-1355,0,0,-1355,2860,20323,12194,-1255,0,0,-265,-1326,12885,21474,0,0,0 0,0,1,2 4,5,5,4 0,-1,-1,0"),
+)
+
+
+def ringing_group(r):
+    """A dark edge, a flat frame and a bright spot through them."""
+    for name, held in RINGING:
+        for samples in ("100,100,0,0,0,0", "100,100,100,100,100,100", "100,100,200,100,100,100"):
+            yield "%s 6 1 0 1 %s %s 4" % (name, held, samples)
+
+
+def sideways_group(r):
+    """The pass along the rows: each number and the order of them, ranges of rows, strips of rows and those left over, one to four components."""
+    yield from ("sideways 1 1 3 0 1 3 4 -4,24,-4 0 3 0 100,200,100 1", "sideways 2 1 4 0 1 2 4 8,8 0 2 0 1,0,0,7 2", "sideways 2 2 6 0 2 2 4 8,8,-4,20 0,1 2,2 0,0 1,2,30,40,500,600,7,8,90,100,1100,1200 8",
+                "sideways 2 2 6 1 1 2 4 8,8,-4,20 0,1 2,2 0,0 1,2,30,40,500,600,7,8,90,100,1100,1200 4", "sideways 5 2 6 0 2 2 4 8,8,-4,20 0,1 2,2 0,0 1,2,30,40,500,600,7,8,90,100,1100,1200 8",
+                "sideways 4 2 6 0 2 2 4 8,8,-4,20 0,1 2,2 0,0 1,2,30,40,500,600,7,8,90,100,1100,1200 8", "sideways 2 2 6 2 1 2 4 8,8,-4,20 0,1 2,2 0,0 1,2,30,40,500,600,7,8,90,100,1100,1200 4",
+                "sideways 0 0 0 0 0 0 0 - - - - - 0", "sideways 4 8192 4 0 0 1 4 16 0 1 0 - 0", "sideways 4 8193 4 0 0 1 4 16 0 1 0 - 0", "sideways 1 32769 1 0 0 1 4 16 0 1 0 - 0",
+                "sideways 4 4294967295 4 4294967295 4294967295 1 4 16 0 1 0 - 0", "sideways 2 1 4 0 1 2 4 8,8 0 2 0 1,0,0,65536 2", "sideways 2 1 4 0 1 2 4 8,8 0 2 0 1,0,0,7", "sideways")
+    yield from r.sample(list(every_sideways()), 60)
+    for _ in range(120):
+        yield sideways(r)
+
+
+GROUPS = {"numbers": numbers, "alpha": alpha_group, "alpha16": alpha16_group, "crop": crop_group, "normalizer": normalizer, "build": build_group, "passes": passes, "sheet": sheet_group, "read": read_group, "repairs": repairs_group, "store": store_group, "story": story_group, "book": book_group, "before": before_group, "ringing": ringing_group, "sideways": sideways_group}
 
 
 def answers(oracle, lines):
@@ -732,7 +758,7 @@ def main():
         if name not in GROUPS:
             sys.exit("no group %s; there are %s" % (name, ", ".join(GROUPS)))
         lines = list(dict.fromkeys(GROUPS[name](random.Random(SEED))))
-        stored = [reading.answer(q) for q in lines] if name in ("read", "repairs", "store", "story", "book", "before") else answers(oracle, lines)
+        stored = [reading.answer(q) for q in lines] if name in ("read", "repairs", "store", "story", "book", "before", "ringing", "sideways") else answers(oracle, lines)
         if name == "numbers":
             theirs = list(testfloat(vectors))
             ours = answers(oracle, [q for q, _ in theirs])

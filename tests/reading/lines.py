@@ -6,6 +6,7 @@ import frames
 import numbers_of_bits as numbers
 import reader
 import repairs
+import sideways
 import stores
 import weights
 
@@ -166,6 +167,7 @@ REQUESTS |= {
     "build": ((kind, flag, flag, u32, u32, u32) + (b64,) * 4 + (doubles, lent(), lent()), built),
     "norm16": (SET + (listed(b64),) + LISTS + (lent(), lent()), normalized(22, 15)), "norm32": (SET + (listed(b64),) + LISTS + (lent(), lent()), normalized(46, 31)),
     "u16pass": ((u32,) * 6 + (listed(i32),) + LISTS + EXCESSES + (listed(u16), lent()), passed(frames.u16_pass, "%d")),
+    "sideways": ((u32,) * 7 + (listed(i32),) + LISTS + EXCESSES + (listed(u16), lent()), passed(sideways.sideways, "%d")),
     "u8pass": ((u32,) * 6 + (listed(i16),) + LISTS + EXCESSES + (listed(u8), lent()), passed(frames.u8_pass, "%d")),
     "f32pass": ((u32,) * 5 + (listed(b64),) + LISTS + (listed(b32), lent(made=lambda v: numbers.narrow(numbers.pattern(float(v))))), counted),
     "mul8": ((listed(u8), lent()), pixels(frames.multiplied)), "div8": ((listed(u8), lent()), pixels(frames.divided)),

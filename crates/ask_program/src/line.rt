@@ -56,9 +56,20 @@ fn small_groups(line: &[u8], a: Said, out: &mut [u8]) -> Said {
     ask_crop::answer(line, b, out)
 }
 
+// Whether a line begins with a letter. A group's lists are laid out only for a line that begins as its words do: all are zeros first, and that takes longer than an answer.
+fn begins(line: &[u8], letter: u8) -> bool {
+    if line.len() == 0 {
+        return false;
+    }
+    line[0] == letter
+}
+
 // The lists of `ask_alpha::answer`, and nothing else: one call.
 fn pixels(line: &[u8], a: Said, out: &mut [u8]) -> Said {
     if a.done {
+        return a;
+    }
+    if !begins(line, b'm') & !begins(line, b'd') {
         return a;
     }
     let mut bytes = [0u8; 131072];
@@ -71,6 +82,9 @@ fn wide_pixels(line: &[u8], a: Said, out: &mut [u8]) -> Said {
     if a.done {
         return a;
     }
+    if !begins(line, b'm') & !begins(line, b'd') {
+        return a;
+    }
     let mut source = [0u16; 131072];
     let mut lent = [0u16; 131072];
     ask_alpha_u16::answer(line, a, out, &mut source, &mut lent)
@@ -79,6 +93,9 @@ fn wide_pixels(line: &[u8], a: Said, out: &mut [u8]) -> Said {
 // The lists of `ask_normalizer::answer`, and nothing else: one call.
 fn integers(line: &[u8], a: Said, out: &mut [u8]) -> Said {
     if a.done {
+        return a;
+    }
+    if !begins(line, b'n') {
         return a;
     }
     let mut slots = [0.0f64; 131072];
@@ -105,6 +122,9 @@ fn windows(line: &[u8], a: Said, out: &mut [u8]) -> Said {
     if a.done {
         return a;
     }
+    if !begins(line, b'b') {
+        return a;
+    }
     let mut slots = [0.0f64; 131072];
     let mut starts = [0u32; 131072];
     let mut sizes = [0u32; 131072];
@@ -114,6 +134,9 @@ fn windows(line: &[u8], a: Said, out: &mut [u8]) -> Said {
 // The lists of `ask_passes::answer_u16`, and nothing else: one call.
 fn frames(line: &[u8], a: Said, out: &mut [u8]) -> Said {
     if a.done {
+        return a;
+    }
+    if !begins(line, b'u') {
         return a;
     }
     let mut wide = [0i32; 131072];
@@ -140,6 +163,9 @@ fn byte_frames(line: &[u8], a: Said, out: &mut [u8]) -> Said {
     if a.done {
         return a;
     }
+    if !begins(line, b'u') {
+        return a;
+    }
     let mut narrow = [0i16; 131072];
     let mut starts = [0u32; 131072];
     let mut sizes = [0u32; 131072];
@@ -164,6 +190,9 @@ fn float_frames(line: &[u8], a: Said, out: &mut [u8]) -> Said {
     if a.done {
         return a;
     }
+    if !begins(line, b'f') {
+        return a;
+    }
     let mut slots = [0.0f64; 131072];
     let mut starts = [0u32; 131072];
     let mut sizes = [0u32; 131072];
@@ -184,6 +213,9 @@ fn float_frames(line: &[u8], a: Said, out: &mut [u8]) -> Said {
 // The lists of `ask_sheet::answer`, and nothing else: one call.
 fn sheets(line: &[u8], a: Said, out: &mut [u8]) -> Said {
     if a.done {
+        return a;
+    }
+    if !begins(line, b's') {
         return a;
     }
     let mut narrow = [0i16; 131072];
@@ -210,6 +242,9 @@ fn stories(line: &[u8], a: Said, out: &mut [u8]) -> Said {
     if a.done {
         return a;
     }
+    if !begins(line, b's') {
+        return a;
+    }
     let mut wide = [0i32; 131072];
     let mut starts = [0u32; 131072];
     let mut sizes = [0u32; 131072];
@@ -234,6 +269,9 @@ fn readings(line: &[u8], a: Said, out: &mut [u8]) -> Said {
     if a.done {
         return a;
     }
+    if !begins(line, b'r') {
+        return a;
+    }
     let mut text = [0u8; 131072];
     let mut wide = [0i32; 131072];
     let mut starts = [0u32; 131072];
@@ -254,6 +292,9 @@ fn readings(line: &[u8], a: Said, out: &mut [u8]) -> Said {
 // The lists of `ask_reader::answer16`, and nothing else: one call.
 fn narrow_readings(line: &[u8], a: Said, out: &mut [u8]) -> Said {
     if a.done {
+        return a;
+    }
+    if !begins(line, b'r') {
         return a;
     }
     let mut text = [0u8; 131072];
@@ -303,7 +344,8 @@ fn stores(line: &[u8], a: Said, out: &mut [u8]) -> Said {
 // Those that have lists of their own.
 fn before(line: &[u8], a: Said, out: &mut [u8]) -> Said {
     let b = ask_repairs::answer(line, a, out);
-    ask_book::answer(line, b, out)
+    let c = ask_book::answer(line, b, out);
+    ask_sideways::answer(line, c, out)
 }
 
 // The first of the groups.

@@ -1,5 +1,5 @@
 pub mod Accepted
-mod DoneU8
+pub mod DoneU8
 pub mod Frames
 pub mod FlatFrame
 pub mod FlatPremise

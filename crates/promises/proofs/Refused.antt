@@ -41,6 +41,7 @@ use Rattle.normalizer.specs.Answer.{normalizedOf, writtenBy, excessesBy, writte
 use Rattle.vertical.specs.declared.Passed.{Passed}
 use Rattle.vertical.specs.declared.Passed.the-variants as passed
 use Rattle.vertical.specs.Passed.{after, numberOf as numberOfPassed}
+use Rattle.sideways.specs.Sideways.{passedSideways, writtenSideways}
 use Rattle.vertical.specs.declared.PassedF32.{PassedF32}
 use Rattle.vertical.specs.declared.PassedF32.the-variants as passed-f32
 use Rattle.vertical.specs.PassedF32.{after as after-f32, numberOf as numberOfPassedF32}
@@ -163,7 +164,7 @@ story-kept false false false false true n written old n0 = refl
 story-kept false false false false false n written old n0 = absurd (n0 refl)
 
 pub refused-unchanged : RefusedUnchanged
-unfolding writtenOf excessesOf writtenU16 writtenU8 writtenF32 multipliedList dividedList multipliedList16 dividedList16 byCase storyByCase
+unfolding writtenOf excessesOf writtenU16 writtenU8 writtenSideways writtenF32 multipliedList dividedList multipliedList16 dividedList16 byCase storyByCase
 refused-unchanged = record {
   build = λ q ws ss zs n0 n8. (
     kept-as ws (λ p. weightsIn p ws) (length ws) (length ss) (length zs) (planOf q) n0 n8,
@@ -174,6 +175,7 @@ refused-unchanged = record {
   normalize = λ store s out excesses n0. normalized-kept store s (normalizedOf store s (length out) (length excesses)) out excesses n0;
   pass-u16 = λ s src row first count out n0. passed-kept (passedU16 s (length src) row first count (length out)) _ out n0;
   pass-u8 = λ s src row first count out n0. passed-kept (passedU8 s (length src) row first count (length out)) _ out n0;
+  pass-sideways = λ s src components rows row first count out n0. passed-kept (passedSideways s (length src) components rows row first count (length out)) _ out n0;
   pass-f32 = λ s src row first count out n0. passed-kept-f32 (passedF32 s src row first count (length out)) _ out n0;
   multiply = λ src out n0. applied-kept (badLists (length src) (length out)) _ out n0;
   divide = λ src out n0. applied-kept (badLists (length src) (length out)) _ out n0;

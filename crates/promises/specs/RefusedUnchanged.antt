@@ -27,6 +27,7 @@ use Rattle.vertical.specs.PassedF32.{numberOf as numberOfPassedF32}
 use Rattle.vertical.specs.U16.{passedU16, writtenU16}
 use Rattle.vertical.specs.F32.{passedF32, writtenF32}
 use Rattle.vertical_u8.specs.U8.{passedU8, writtenU8}
+use Rattle.sideways.specs.Sideways.{passedSideways, writtenSideways}
 use Rattle.repairs.specs.Offer.{Offer}
 use Rattle.repairs.specs.Answer.{acceptedOf, numberOf as numberOfAccepted, weightsOf as weightsTaken, excessesOf as excessesTaken, offeredOf, offeredNumber, writtenOf as offerIn}
 use Rattle.sheet.specs.Answer.{answerOf, numberOf as numberOfSheet, writtenOf as sheetIn}
@@ -63,6 +64,7 @@ pub record RefusedUnchanged : Type 0 where
   pub normalize : (store : Store) (s : Set Float) (out excesses : List ℤ) → Not 0 (numberOfNormalized (normalizedOf store s (length out) (length excesses))) → (writtenOf store s (length excesses) out ≡ out) × (excessesOf store s (length out) excesses ≡ excesses)
   pub pass-u16 : (s : Stored) (src : List ℕ) (row first count : ℕ) (out : List ℕ) → Not 0 (numberOfPassed (passedU16 s (length src) row first count (length out))) → writtenU16 s src row first count out ≡ out
   pub pass-u8 : (s : Stored) (src : List ℕ) (row first count : ℕ) (out : List ℕ) → Not 0 (numberOfPassed (passedU8 s (length src) row first count (length out))) → writtenU8 s src row first count out ≡ out
+  pub pass-sideways : (s : Stored) (src : List ℕ) (components rows row first count : ℕ) (out : List ℕ) → Not 0 (numberOfPassed (passedSideways s (length src) components rows row first count (length out))) → writtenSideways s src components rows row first count out ≡ out
   pub pass-f32 : (s : Set Float) (src : List Float) (row first count : ℕ) (out : List Float) → Not 0 (numberOfPassedF32 (passedF32 s src row first count (length out))) → writtenF32 s src row first count out ≡ out
   pub multiply : (src out : List ℕ) → Not 0 (numberOfApplied (appliedTo src out)) → multipliedList src out ≡ out
   pub divide : (src out : List ℕ) → Not 0 (numberOfApplied (appliedTo src out)) → dividedList src out ≡ out

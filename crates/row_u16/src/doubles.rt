@@ -16,15 +16,15 @@ fn sample(s: u16) -> f64
 }
 
 // A weight as a double.
-fn weight(w: i32) -> f64
-    ensures { λ r. ⌜ r ≡ ofInt binary64 w ⌝ }
+pub fn weight(w: i32) -> f64
+    ensures answer { λ r. ⌜ r ≡ ofInt binary64 w ⌝ }
 {
     w as f64
 }
 
 // One weight times one sample, added.
-fn step(acc: f64, w: f64, s: u16) -> f64
-    ensures { λ r. ⌜ r ≡ add binary64 acc (mul binary64 (ofInt binary64 (pos s)) w) ⌝ }
+pub fn added(acc: f64, w: f64, s: u16) -> f64
+    ensures answer { λ r. ⌜ r ≡ add binary64 acc (mul binary64 (ofInt binary64 (pos s)) w) ⌝ }
 {
     acc + sample(s) * w
 }
@@ -39,7 +39,7 @@ fn add16(ss: [f64; 16], src: &[u16], at: usize, w: f64) -> [f64; 16]
     let mut r = ss;
     let mut t: usize = 0;
     while t < 16 {
-        r[t] = step(r[t], w, src[at + t]);
+        r[t] = added(r[t], w, src[at + t]);
         t = t + 1;
     }
     r

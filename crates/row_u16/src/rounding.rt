@@ -17,9 +17,9 @@ fn wide(p: u32) -> u64
 }
 
 // The double whose pattern is b, times 2^p: the pattern's exponent begins at 2^52.
-pub(crate) fn scaled(b: u64, p: u32) -> f64
+pub fn scaled(b: u64, p: u32) -> f64
     requires { ⌜ (b ≤ 0x43ff_ffff_ffff_ffff) × (p ≤ 45) ⌝ }
-    ensures { λ r. ⌜ r ≡ ofBits binary64 (b + p * 2 ^ 52) ⌝ }
+    ensures answer { λ r. ⌜ r ≡ ofBits binary64 (b + p * 2 ^ 52) ⌝ }
 {
     f64::from_bits(b + wide(p) * 0x10_0000_0000_0000)
 }
@@ -48,9 +48,9 @@ fn at_most(x: f64, top: f64) -> f64
 
 // A sum cut to 0 .. 65535 and divided by 2^p, for the doubles 65535 x 2^p as `top` and 2^(52 + p) as `big`: a number from `big` to twice `big` has its whole multiples
 // of 2^p in its pattern, so the addition rounds the sum to one, and the pattern's last digits are the result.
-fn cut(v: f64, top: f64, big: f64) -> u16
+pub fn cut(v: f64, top: f64, big: f64) -> u16
     requires { ⌜ T (not (isNan (placed v top big))) ⌝ }
-    ensures { λ r. ⌜ r ≡ toBits binary64 (placed v top big) % 65536 ⌝ }
+    ensures answer { λ r. ⌜ r ≡ toBits binary64 (placed v top big) % 65536 ⌝ }
 {
     (f64::to_bits(at_most(at_least(v), top) + big) % 65536) as u16
 }

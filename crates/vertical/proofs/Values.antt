@@ -21,7 +21,7 @@ module _ (M : ℕ) (s : Stored) (src : List ℕ) (row first : ℕ) where
   abbrev Cell : ℕ → ℕ → ℕ
   Cell = windowValue M src row first (s .set .layout .starts) (s .set .layout .sizes) (s .set .layout .windowSize) (s .set .weights) (s .precision)
 
-  value-is : (i j : ℕ) → Cell i j ≡ valueAt M s (frame 0 src row) i (first + j)
+  pub value-is : (i j : ℕ) → Cell i j ≡ valueAt M s (frame 0 src row) i (first + j)
   value-is i j =
       let slots : List ℤ = take (size (s .set .layout) i) (drop (i * s .set .layout .windowSize) (s .set .weights)) in
       ap (λ (z : ℤ). clipped M (shifted (s .precision) z))

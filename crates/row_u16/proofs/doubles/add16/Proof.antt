@@ -31,7 +31,7 @@ loop-again c =
     let e : getD (l .loop .r) (l .loop .t) nan ≡ getD (a .ss) (l .loop .t) nan = l .loop .inv .3 (l .loop .t) (omega arith) in (
       omega arith,
       simp length-set (l .loop .inv .1),
-      set-below (l .loop .r) (l .loop .t) _ nan (λ (x : ℕ). add binary64 (getD (a .ss) x nan) (mul binary64 (ofInt binary64 (pos (getD (a .src .now) (a .at + x) 0))) (a .w))) (omega arith) (c .step .ensures ∙ rw e refl) (l .loop .inv .2),
+      set-below (l .loop .r) (l .loop .t) _ nan (λ (x : ℕ). add binary64 (getD (a .ss) x nan) (mul binary64 (ofInt binary64 (pos (getD (a .src .now) (a .at + x) 0))) (a .w))) (omega arith) (c .added .ensures ∙ rw e refl) (l .loop .inv .2),
       set-above (l .loop .r) (l .loop .t) _ nan (λ (x : ℕ). getD (a .ss) x nan) (l .loop .inv .3),
     )
 

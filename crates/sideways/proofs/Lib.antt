@@ -1,0 +1,5 @@
+pub mod FrameLaws
+pub mod ExchangeLaws
+pub mod Answers
+pub mod Sideways
+pub mod Example

@@ -1,0 +1,3 @@
+pub mod JudgeLaws
+pub mod Judged
+pub mod Sure

@@ -1,0 +1,3 @@
+pub mod Run
+pub mod WindowCuts
+pub mod Rectangle
