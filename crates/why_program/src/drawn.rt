@@ -1,7 +1,7 @@
 // The window on a terminal, where the fifth argument asks for it.
 use crate::bars::bars;
-use crate::lists::slots;
 use crate::told::Asked;
+use frame_files::times;
 
 // Whether the window is to be drawn: the fifth argument is `draw`.
 fn wanted() -> bool {
@@ -22,7 +22,7 @@ pub(crate) fn window(q: Asked, samples: &[u16], weights: &[i32], starts: &[u32],
     if sizes.len() <= i {
         return;
     }
-    let from = slots(q.line, q.window_size);
+    let from = times(q.line, q.window_size);
     let start = index(starts[i]);
     let n = index(sizes[i]);
     if weights.len() < from {

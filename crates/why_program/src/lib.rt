@@ -1,5 +1,5 @@
 // The program `why_pixel`: the story of one output sample, of a sheet and a frame in files. `sheet_files` brings the sheet, `frame` one column of the frame; the story is
-// that of a frame one column wide, which the promise on column cuts allows. `said` has what is not a story, `drawn` and `bars` the window for a terminal. No contract says what is
+// that of a frame one column wide, which the promise on strips allows. `said` has what is not a story, `drawn` and `bars` the window for a terminal. No contract says what is
 // read or printed, since none could speak of the streams; every function is safe at every argument.
 mod bars;
 mod drawn;
@@ -82,7 +82,7 @@ fn asked(
             sizes,
             excesses,
         ),
-        Place::NoLine => said::no_number(b"line", b"LINE"),
-        Place::NoColumn => said::no_number(b"column", b"COLUMN"),
+        Place::NoLine => frame_files::no_number(b"line", b"LINE"),
+        Place::NoColumn => frame_files::no_number(b"column", b"COLUMN"),
     }
 }

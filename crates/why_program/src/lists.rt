@@ -2,14 +2,10 @@
 use crate::drawn;
 use crate::said;
 use crate::told::Asked;
+use frame_files::times;
 use sheet_files::streams::out;
 use story::Told;
 use windows::DisplayLine;
-
-// How many slots so many windows have.
-pub(crate) fn slots(windows: u32, window_size: u32) -> usize {
-    windows as usize * window_size as usize
-}
 
 // The set's own part of each list.
 pub(crate) fn listed(
@@ -23,7 +19,7 @@ pub(crate) fn listed(
 ) {
     let a: usize = 0;
     let n = q.windows as usize;
-    let m = slots(q.windows, q.window_size);
+    let m = times(q.windows, q.window_size);
     if weights.len() < m {
         return;
     }

@@ -1,8 +1,6 @@
 // A place of a frame: the frame's shape, and the samples of its column.
 use crate::frame;
-use crate::frame::Frame;
 use crate::lists::listed;
-use crate::said;
 use sheet_scan::Sizes;
 use sheet_scan::StoreLines;
 
@@ -28,29 +26,27 @@ pub(crate) fn story(
     sizes: &[u32],
     excesses: &[i64],
 ) {
-    let fd = frame::opened();
-    let shape = frame::shape(fd, head.lines);
-    match shape {
-        Frame::Rows(row) => sampled(
-            fd,
-            Asked {
-                lines: head.lines,
-                windows: head.windows,
-                window_size: head.window_size,
-                precision: store.precision,
-                row: row,
-                line: line,
-                column: column,
-            },
-            weights,
-            starts,
-            sizes,
-            excesses,
-        ),
-        Frame::Failed => said::no_frame(),
-        Frame::Misfit(bytes) => said::misfit(bytes, head.lines),
-        Frame::Long(row) => said::long_rows(row),
+    let fd = frame_files::opened(2);
+    let row = frame_files::row(fd, head.lines, true);
+    if row == 0 {
+        return;
     }
+    sampled(
+        fd,
+        Asked {
+            lines: head.lines,
+            windows: head.windows,
+            window_size: head.window_size,
+            precision: store.precision,
+            row: row,
+            line: line,
+            column: column,
+        },
+        weights,
+        starts,
+        sizes,
+        excesses,
+    );
 }
 
 // The column's samples stand here, apart from what looks at them.
@@ -78,7 +74,7 @@ fn columned(
         return listed(q, 1, samples, weights, starts, sizes, excesses);
     }
     if !frame::column(fd, q.row, q.column, samples) {
-        return said::no_frame();
+        return frame_files::no_frame();
     }
     listed(q, 0, samples, weights, starts, sizes, excesses);
 }
