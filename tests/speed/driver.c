@@ -1,8 +1,7 @@
 /* driver CASE SIDE RUNS: runs one function RUNS times on inputs that depend on the case alone, and says what it wrote.
  * SIDE is `rust` (the given Rust, given.rs) or `port` (the static library, mirror.h). A function that the library does not have
- * is answered by `missing`. Cases: multiply, multiply_in, divide, divide_in, the same with 16; u16_N, u8_N or f32_N for windows of N lines, u16_N_C for frames of C columns; sideways_N_C
- * for pixels of C components, build, norm16, norm32. The Rust of u8_N is ours, written as the given u16 pass is; for sideways_N_C, of which no Rust is given, SIDE `rust` is the
- * library's vertical pass over the frame with rows and columns exchanged. */
+ * is answered by `missing`. Cases: multiply, multiply_in, divide, divide_in, the same with 16; u16_N, u8_N or f32_N for windows of N lines, u16_N_C for frames of C columns; build, norm16,
+ * norm32. The Rust of u8_N is ours, written as the given u16 pass is. */
 #include <inttypes.h>
 #include <stdio.h>
 #include <stdlib.h>
@@ -16,7 +15,6 @@
 #pragma weak mirror_vertical_u16
 #pragma weak mirror_vertical_u8
 #pragma weak mirror_vertical_f32
-#pragma weak mirror_horizontal_u16
 #pragma weak mirror_multiply_u8x4
 #pragma weak mirror_multiply_u8x4_inplace
 #pragma weak mirror_divide_u8x4
@@ -147,16 +145,6 @@ static void shape(int taps, uint32_t *kind, uint32_t *side, uint32_t *out)
     exit(2);
 }
 
-/* Each window's excess, of the integers in `weights`. */
-static void excesses(uint32_t out, uint32_t window, uint32_t precision)
-{
-    for (size_t i = 0; i < out; i++) {
-        over[i] = -((int64_t)1 << precision);
-        for (size_t k = 0; k < sizes[i]; k++)
-            over[i] += weights[i * window + k];
-    }
-}
-
 static void pass(int floats, int taps, uint32_t row, int port, int runs)
 {
     uint32_t kind, side, out, infinite, no = 0;
@@ -174,7 +162,11 @@ static void pass(int floats, int taps, uint32_t row, int port, int runs)
     uint32_t window = given_set(kind, side, out, slots, starts, sizes);
     uint32_t precision = given_integers(kind, side, out, weights);
     size_t count = (size_t)window * out;
-    excesses(out, window, precision);
+    for (size_t i = 0; i < out; i++) {
+        over[i] = -((int64_t)1 << precision);
+        for (size_t k = 0; k < sizes[i]; k++)
+            over[i] += weights[i * window + k];
+    }
     for (int i = 0; i < runs; i++) {
         if (floats)
             no = mirror_vertical_f32(real, samples, side, row, 0, row, slots, count, starts, out, sizes, out, window, (float *)written, items, &infinite);
@@ -183,37 +175,6 @@ static void pass(int floats, int taps, uint32_t row, int port, int runs)
                                      (uint16_t *)written, items);
     }
     end(items * (floats ? 4 : 2), items, no);
-}
-
-/* 1,920 samples of each place along a row: 1,920 rows of one component, 960 of two, .. */
-static void sideways(int taps, uint32_t components, int port, int runs)
-{
-    uint32_t kind, side, out, no = 0, rows = COLUMNS / components, row;
-    shape(taps, &kind, &side, &out);
-    row = side * components;
-    size_t samples = (size_t)rows * row, across = (size_t)rows * components, items = out * across;
-    uint16_t *whole = malloc(samples * 2), *turned = malloc(samples * 2), *made = malloc(items * 2), *back = (uint16_t *)written;
-    for (size_t i = 0; i < samples; i++)
-        whole[i] = (uint16_t)next();
-    for (size_t y = 0; y < rows; y++)
-        for (size_t i = 0; i < row; i++)
-            turned[i / components * across + y * components + i % components] = whole[y * row + i];
-    missing_if(!mirror_vertical_u16 || !mirror_horizontal_u16);
-    uint32_t window = given_set(kind, side, out, slots, starts, sizes);
-    uint32_t precision = given_integers(kind, side, out, weights);
-    size_t count = (size_t)window * out;
-    excesses(out, window, precision);
-    for (int i = 0; i < runs; i++) {
-        if (port)
-            no = mirror_horizontal_u16(whole, samples, components, rows, row, 0, rows, weights, count, starts, out, sizes, out, over, out, window, precision,
-                                       back, items);
-        else
-            no = mirror_vertical_u16(turned, samples, side, (uint32_t)across, 0, (uint32_t)across, weights, count, starts, out, sizes, out, over, out, window,
-                                     precision, made, items);
-    }
-    for (size_t i = 0; i < items && !port; i++)
-        back[((i % across / components) * out + i / across) * components + i % components] = made[i];
-    end(items * 2, items, no);
 }
 
 static void bytes(int taps, uint32_t row, int port, int runs)
@@ -282,8 +243,6 @@ int main(int argc, char **argv)
         alpha(name, port, runs);
     if (sscanf(name, "u16_%d_%d", &taps, &columns) >= 1)
         pass(0, taps, (uint32_t)columns, port, runs);
-    if (sscanf(name, "sideways_%d_%d", &taps, &columns) == 2)
-        sideways(taps, (uint32_t)columns, port, runs);
     if (sscanf(name, "u8_%d_%d", &taps, &columns) >= 1)
         bytes(taps, columns, port, runs);
     if (sscanf(name, "f32_%d_%d", &taps, &columns) >= 1)

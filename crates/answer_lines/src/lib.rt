@@ -1,6 +1,8 @@
 // The lines that answer requests (docs/PROTOCOL.md): `emit` prints words and numbers, a module for each element type (`u8s` .. `f64s`) shows a list,
 // `fault` says what is wrong with a line that is no request. What is printed goes to the output's buffer, and from there to standard output, of
 // which no contract can speak. Every function is safe at every argument.
+#![tactic(auto)]
+
 mod convert;
 pub mod emit;
 mod fault;

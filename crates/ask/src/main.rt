@@ -1,30 +1,6 @@
-// The program `ask`: requests from standard input, an answer a line (docs/PROTOCOL.md). One more group of requests is one more crate and one more line
-// of `line`.
-mod buffer;
-mod input;
-mod line;
+// Answers the requests of standard input, a line each (docs/PROTOCOL.md).
+#![tactic(auto)]
 
-use answer_lines::emit;
-
-// Answers standard input to its end. The buffers stand here, apart from the loop.
 fn main() {
-    let mut buf = [0u8; 262144];
-    let mut out = [0u8; 65536];
-    serve(&mut buf, &mut out);
-}
-
-// Nothing says that the input ends, so the turns are counted down from a number that no run uses up.
-fn serve(buf: &mut [u8], out: &mut [u8]) {
-    let mut s = input::first();
-    let mut turns = u64::MAX;
-    while turns > 0 {
-        let t = input::step(s, buf);
-        let n = line::answered(t, buf, out);
-        s = input::after(t, n);
-        if s.done {
-            emit::flush(s.n, out);
-            return;
-        }
-        turns -= 1;
-    }
+    ask_program::run();
 }

@@ -1,36 +1,27 @@
 // The requests `mul8 SRC NOUT`, `div8 SRC NOUT` and, in place, `mul8in SRC`, `div8in SRC`, answered by `alpha`.
+#![tactic(auto)]
+
 use answer_lines::{Said, emit};
 use request_fields::{fields, u8s};
 
-// The line's answer, where it is one of these requests. Their lists are laid out for no other line.
-pub fn answer(line: &[u8], s: Said, out: &mut [u8]) -> Said {
+// The line's answer, where it is one of these requests.
+pub fn answer(line: &[u8], s: Said, out: &mut [u8], src: &mut [u8], lent: &mut [u8]) -> Said {
     if s.done {
         return s;
     }
     let divide = fields::is(line, 0, b"div8");
     if divide | fields::is(line, 0, b"mul8") {
-        return apart(divide, line, s.n, out);
+        return apart(divide, line, s.n, out, src, lent);
     }
     let within = fields::is(line, 0, b"div8in");
     if within | fields::is(line, 0, b"mul8in") {
-        return in_place(within, line, s.n, out);
+        return in_place(within, line, s.n, out, src);
     }
     s
 }
 
-// From one list into another: its two lists, or the line's first fault.
-fn apart(divide: bool, line: &[u8], n: usize, out: &mut [u8]) -> Said {
-    let f = request_fields::first_fault(line, b"Bn");
-    if f.reason != 0 {
-        return answer_lines::told(answer_lines::bad(f.word, f.reason, n, out));
-    }
-    let mut src = [0u8; 131072];
-    let mut lent = [0u8; 131072];
-    into(divide, line, n, out, &mut src, &mut lent)
-}
-
-// SRC and NOUT.
-fn into(
+// From one list into another.
+fn apart(
     divide: bool,
     line: &[u8],
     n: usize,
@@ -38,6 +29,10 @@ fn into(
     src: &mut [u8],
     lent: &mut [u8],
 ) -> Said {
+    let f = request_fields::first_fault(line, b"Bn");
+    if f.reason != 0 {
+        return answer_lines::told(answer_lines::bad(f.word, f.reason, n, out));
+    }
     let a: usize = 0;
     let k = u8s::read(line, 1, src);
     let m = u8s::lend(line, 2, lent);
@@ -45,18 +40,12 @@ fn into(
     shown(no, &lent[a..m], n, out)
 }
 
-// In place: its list, or the line's first fault.
-fn in_place(divide: bool, line: &[u8], n: usize, out: &mut [u8]) -> Said {
+// The list itself.
+fn in_place(divide: bool, line: &[u8], n: usize, out: &mut [u8], pixels: &mut [u8]) -> Said {
     let f = request_fields::first_fault(line, b"B");
     if f.reason != 0 {
         return answer_lines::told(answer_lines::bad(f.word, f.reason, n, out));
     }
-    let mut pixels = [0u8; 131072];
-    within(divide, line, n, out, &mut pixels)
-}
-
-// SRC itself.
-fn within(divide: bool, line: &[u8], n: usize, out: &mut [u8], pixels: &mut [u8]) -> Said {
     let a: usize = 0;
     let k = u8s::read(line, 1, pixels);
     let no = applied_within(divide, &mut pixels[a..k]);

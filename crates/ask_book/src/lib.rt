@@ -1,4 +1,6 @@
 // The request `book TEXT`, answered by `book` and `write_report`: the report of a text of sheets, as hexadecimal digits.
+#![tactic(auto)]
+
 use answer_lines::Said;
 use request_fields::{fields, u8s};
 use sheet::Sheet;

@@ -1,4 +1,6 @@
 // The requests `filter`, `crop` and `fit`, answered by `filters`, `crop_box` and `crop_fit`.
+#![tactic(auto)]
+
 mod fitting;
 
 use answer_lines::{Said, emit};

@@ -1,4 +1,6 @@
 // The requests `norm16` and `norm32`, answered by `normalizer`.
+#![tactic(auto)]
+
 mod norm16;
 mod norm32;
 
@@ -6,28 +8,28 @@ use answer_lines::{Said, emit};
 use normalizer::Normalized;
 use request_fields::fields;
 
-// The line's answer, where it is one of these requests. Their lists are laid out for no other line.
-pub fn answer(line: &[u8], s: Said, out: &mut [u8]) -> Said {
+// The line's answer, where it is one of these requests.
+pub fn answer(
+    line: &[u8],
+    s: Said,
+    out: &mut [u8],
+    weights: &mut [f64],
+    starts: &mut [u32],
+    sizes: &mut [u32],
+    narrow: &mut [i16],
+    wide: &mut [i32],
+    excesses: &mut [i64],
+) -> Said {
     if s.done {
         return s;
     }
-    let wide = fields::is(line, 0, b"norm32");
-    if wide | fields::is(line, 0, b"norm16") {
-        return judged(wide, line, s.n, out);
+    if fields::is(line, 0, b"norm16") {
+        return norm16::of_line(line, s.n, out, weights, starts, sizes, narrow, excesses);
+    }
+    if fields::is(line, 0, b"norm32") {
+        return norm32::of_line(line, s.n, out, weights, starts, sizes, wide, excesses);
     }
     s
-}
-
-// The answer of one of the stores, or the line's first fault.
-fn judged(wide: bool, line: &[u8], n: usize, out: &mut [u8]) -> Said {
-    let f = request_fields::first_fault(line, b"wwXWWnn");
-    if f.reason != 0 {
-        return answer_lines::told(answer_lines::bad(f.word, f.reason, n, out));
-    }
-    if wide {
-        return norm32::lists(line, n, out);
-    }
-    norm16::lists(line, n, out)
 }
 
 // The number of the answer, and the precision.

@@ -2,27 +2,8 @@
 use answer_lines::{Said, emit};
 use request_fields::{f64s, fields, i16s, i64s, u32s};
 
-// The lists of `of_line`, and nothing else: one call. A line has no more patterns of 16 digits than `weights` takes.
-pub(crate) fn lists(line: &[u8], n: usize, out: &mut [u8]) -> Said {
-    let mut weights = [0.0f64; 16384];
-    let mut starts = [0u32; 131072];
-    let mut sizes = [0u32; 131072];
-    let mut lent = [0i16; 131072];
-    let mut excesses = [0i64; 131072];
-    of_line(
-        line,
-        n,
-        out,
-        &mut weights,
-        &mut starts,
-        &mut sizes,
-        &mut lent,
-        &mut excesses,
-    )
-}
-
-// WEIGHTS, STARTS and SIZES.
-fn of_line(
+// The line's answer.
+pub(crate) fn of_line(
     line: &[u8],
     n: usize,
     out: &mut [u8],
@@ -32,6 +13,10 @@ fn of_line(
     lent: &mut [i16],
     excesses: &mut [i64],
 ) -> Said {
+    let f = request_fields::first_fault(line, b"wwXWWnn");
+    if f.reason != 0 {
+        return answer_lines::told(answer_lines::bad(f.word, f.reason, n, out));
+    }
     let a: usize = 0;
     let slots = f64s::read(line, 3, weights);
     let i = u32s::read(line, 4, starts);

@@ -1,5 +1,7 @@
 // The requests `abs`, `floor`, `ceil`, `round`, `narrow` of a double's pattern and `widen` of a single's, answered by `numbers`; and `clip8 I`,
 // answered by `clips`.
+#![tactic(auto)]
+
 use answer_lines::{Said, emit};
 use request_fields::fields;
 

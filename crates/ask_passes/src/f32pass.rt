@@ -3,36 +3,8 @@ use answer_lines::{Said, emit};
 use request_fields::{f32s, f64s, fields, u32s};
 use vertical::Frame;
 
-// The line's answer, or its first fault.
-pub(crate) fn judged(line: &[u8], n: usize, out: &mut [u8]) -> Said {
-    let f = request_fields::first_fault(line, b"wwwwwXWWYn");
-    if f.reason != 0 {
-        return answer_lines::told(answer_lines::bad(f.word, f.reason, n, out));
-    }
-    lists(line, n, out)
-}
-
-// The lists of `of_line`, and nothing else: one call. A line has no more patterns of 16 digits, or of 8, than two of them take.
-fn lists(line: &[u8], n: usize, out: &mut [u8]) -> Said {
-    let mut weights = [0.0f64; 16384];
-    let mut starts = [0u32; 131072];
-    let mut sizes = [0u32; 131072];
-    let mut samples = [0.0f32; 32768];
-    let mut lent = [0.0f32; 131072];
-    of_line(
-        line,
-        n,
-        out,
-        &mut weights,
-        &mut starts,
-        &mut sizes,
-        &mut samples,
-        &mut lent,
-    )
-}
-
-// WEIGHTS, STARTS and SIZES.
-fn of_line(
+// The line's answer.
+pub(crate) fn of_line(
     line: &[u8],
     n: usize,
     out: &mut [u8],
@@ -42,6 +14,10 @@ fn of_line(
     samples: &mut [f32],
     lent: &mut [f32],
 ) -> Said {
+    let f = request_fields::first_fault(line, b"wwwwwXWWYn");
+    if f.reason != 0 {
+        return answer_lines::told(answer_lines::bad(f.word, f.reason, n, out));
+    }
     let a: usize = 0;
     let slots = f64s::read(line, 6, weights);
     let i = u32s::read(line, 7, starts);

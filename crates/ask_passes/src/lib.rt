@@ -1,21 +1,51 @@
-// The requests `u16pass`, `sideways` and `f32pass`, answered by `vertical_u16`, `sideways_u16` and `vertical_f32`.
+// The requests `u16pass` and `f32pass`, answered by `vertical_u16` and `vertical_f32`.
+#![tactic(auto)]
+
 mod f32pass;
 mod u16pass;
 
 use answer_lines::Said;
 use request_fields::fields;
 
-// The line's answer, where it is one of these requests. Their lists are laid out for no other line.
-pub fn answer(line: &[u8], s: Said, out: &mut [u8]) -> Said {
+// The line's answer, where it is `u16pass`.
+pub fn answer_u16(
+    line: &[u8],
+    s: Said,
+    out: &mut [u8],
+    weights: &mut [i32],
+    starts: &mut [u32],
+    sizes: &mut [u32],
+    excesses: &mut [i64],
+    samples: &mut [u16],
+    lent: &mut [u16],
+) -> Said {
     if s.done {
         return s;
     }
-    let sideways = fields::is(line, 0, b"sideways");
-    if sideways | fields::is(line, 0, b"u16pass") {
-        return u16pass::judged(sideways, line, s.n, out);
+    if fields::is(line, 0, b"u16pass") {
+        return u16pass::of_line(
+            line, s.n, out, weights, starts, sizes, excesses, samples, lent,
+        );
+    }
+    s
+}
+
+// The line's answer, where it is `f32pass`.
+pub fn answer_f32(
+    line: &[u8],
+    s: Said,
+    out: &mut [u8],
+    weights: &mut [f64],
+    starts: &mut [u32],
+    sizes: &mut [u32],
+    samples: &mut [f32],
+    lent: &mut [f32],
+) -> Said {
+    if s.done {
+        return s;
     }
     if fields::is(line, 0, b"f32pass") {
-        return f32pass::judged(line, s.n, out);
+        return f32pass::of_line(line, s.n, out, weights, starts, sizes, samples, lent);
     }
     s
 }

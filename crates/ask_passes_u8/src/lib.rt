@@ -1,45 +1,34 @@
 // The request `u8pass LINES ROW FIRST COUNT WINDOW PRECISION WEIGHTS STARTS SIZES EXCESSES SAMPLES NOUT`, answered by `vertical_u8`.
+#![tactic(auto)]
+
 use answer_lines::{Said, emit};
 use request_fields::{fields, i16s, i64s, u8s, u32s};
 use vertical::Frame;
 
-// The line's answer, where it is this request. Its lists are laid out for no other line.
-pub fn answer(line: &[u8], s: Said, out: &mut [u8]) -> Said {
+// The line's answer, where it is this request.
+pub fn answer(
+    line: &[u8],
+    s: Said,
+    out: &mut [u8],
+    weights: &mut [i16],
+    starts: &mut [u32],
+    sizes: &mut [u32],
+    excesses: &mut [i64],
+    samples: &mut [u8],
+    lent: &mut [u8],
+) -> Said {
     if s.done {
         return s;
     }
-    if !fields::is(line, 0, b"u8pass") {
-        return s;
+    if fields::is(line, 0, b"u8pass") {
+        return of_line(
+            line, s.n, out, weights, starts, sizes, excesses, samples, lent,
+        );
     }
-    let f = request_fields::first_fault(line, b"wwwwwwIWWQBn");
-    if f.reason != 0 {
-        return answer_lines::told(answer_lines::bad(f.word, f.reason, s.n, out));
-    }
-    lists(line, s.n, out)
+    s
 }
 
-// The lists of `of_line`, and nothing else: one call.
-fn lists(line: &[u8], n: usize, out: &mut [u8]) -> Said {
-    let mut weights = [0i16; 131072];
-    let mut starts = [0u32; 131072];
-    let mut sizes = [0u32; 131072];
-    let mut excesses = [0i64; 131072];
-    let mut samples = [0u8; 131072];
-    let mut lent = [0u8; 131072];
-    of_line(
-        line,
-        n,
-        out,
-        &mut weights,
-        &mut starts,
-        &mut sizes,
-        &mut excesses,
-        &mut samples,
-        &mut lent,
-    )
-}
-
-// WEIGHTS, STARTS, SIZES and EXCESSES.
+// The line's answer.
 fn of_line(
     line: &[u8],
     n: usize,
@@ -51,6 +40,10 @@ fn of_line(
     samples: &mut [u8],
     lent: &mut [u8],
 ) -> Said {
+    let f = request_fields::first_fault(line, b"wwwwwwIWWQBn");
+    if f.reason != 0 {
+        return answer_lines::told(answer_lines::bad(f.word, f.reason, n, out));
+    }
     let a: usize = 0;
     let slots = i16s::read(line, 7, weights);
     let i = u32s::read(line, 8, starts);

@@ -2,27 +2,8 @@
 use answer_lines::{Said, emit};
 use request_fields::{i32s, i64s, u8s, u32s};
 
-// The lists of `of_line`, and nothing else: one call.
-pub(crate) fn lists(line: &[u8], n: usize, out: &mut [u8]) -> Said {
-    let mut text = [0u8; 131072];
-    let mut weights = [0i32; 131072];
-    let mut starts = [0u32; 131072];
-    let mut sizes = [0u32; 131072];
-    let mut excesses = [0i64; 131072];
-    of_line(
-        line,
-        n,
-        out,
-        &mut text,
-        &mut weights,
-        &mut starts,
-        &mut sizes,
-        &mut excesses,
-    )
-}
-
-// TEXT.
-fn of_line(
+// The line's answer.
+pub(crate) fn of_line(
     line: &[u8],
     n: usize,
     out: &mut [u8],
@@ -34,11 +15,11 @@ fn of_line(
 ) -> Said {
     let a: usize = 0;
     let e = u8s::read_hex(line, 1, text);
-    lend(line, n, out, &text[a..e], weights, starts, sizes, excesses)
+    lists(line, n, out, &text[a..e], weights, starts, sizes, excesses)
 }
 
 // Slots and starts, lent as long as NSLOTS and NSTARTS say.
-fn lend(
+fn lists(
     line: &[u8],
     n: usize,
     out: &mut [u8],

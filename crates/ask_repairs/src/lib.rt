@@ -1,6 +1,8 @@
 // The requests `accept STORE LINES WINDOW PRECISION WEIGHTS STARTS SIZES EXCESSES WINDOW PRECISION STARTS SIZES WEIGHTS`, an offer judged, and
 // `offer STORE LINES WINDOW PRECISION WEIGHTS STARTS SIZES EXCESSES NOUT`, an offer of our own, answered by `repairs`. Weights stand in a list of the store that
 // the line names, and that of the other store is empty (`weights`): each request is one piece of code for both stores. Lists named `other` are the offer's.
+#![tactic(auto)]
+
 mod accepting;
 mod judging;
 mod making;

@@ -1,4 +1,6 @@
 // The request `sheet KIND LINES WINDOW STORE PRECISION WEIGHTS STARTS SIZES EXCESSES ROOM`, answered by `sheet`, with a module for each store.
+#![tactic(auto)]
+
 mod store16;
 mod store32;
 
@@ -6,8 +8,18 @@ use answer_lines::{Said, emit};
 use request_fields::{Fault, fields};
 use sheet::Sheet;
 
-// The line's answer, where it is this request. Its lists are laid out for no other line.
-pub fn answer(line: &[u8], s: Said, out: &mut [u8]) -> Said {
+// The line's answer, where it is this request.
+pub fn answer(
+    line: &[u8],
+    s: Said,
+    out: &mut [u8],
+    narrow: &mut [i16],
+    wide: &mut [i32],
+    starts: &mut [u32],
+    sizes: &mut [u32],
+    excesses: &mut [i64],
+    room: &mut [u8],
+) -> Said {
     if s.done {
         return s;
     }
@@ -15,10 +27,10 @@ pub fn answer(line: &[u8], s: Said, out: &mut [u8]) -> Said {
         return s;
     }
     if fields::is(line, 4, b"16") {
-        return store16::judged(line, s.n, out);
+        return store16::of_line(line, s.n, out, narrow, starts, sizes, excesses, room);
     }
     if fields::is(line, 4, b"32") {
-        return store32::judged(line, s.n, out);
+        return store32::of_line(line, s.n, out, wide, starts, sizes, excesses, room);
     }
     let f = store_fault(line);
     answer_lines::told(answer_lines::bad(f.word, f.reason, s.n, out))

@@ -4,42 +4,8 @@ use filter_fields::Kind;
 use filters::FilterType;
 use request_fields::{fields, i32s, i64s, u8s, u32s};
 
-// The line's answer, or its first fault.
-pub(crate) fn judged(line: &[u8], n: usize, out: &mut [u8]) -> Said {
-    let f = request_fields::first_fault(line, b"kwwwwJWWQm");
-    if f.reason != 0 {
-        return answer_lines::told(answer_lines::bad(f.word, f.reason, n, out));
-    }
-    let kind_read = filter_fields::kind_at(line, 1);
-    let Kind::Is(kind) = kind_read else {
-        return answer_lines::told(answer_lines::bad(2, b'k', n, out));
-    };
-    lists(kind, line, n, out)
-}
-
-// The lists of `of_line`, and nothing else: one call.
-fn lists(kind: FilterType, line: &[u8], n: usize, out: &mut [u8]) -> Said {
-    let mut weights = [0i32; 131072];
-    let mut starts = [0u32; 131072];
-    let mut sizes = [0u32; 131072];
-    let mut excesses = [0i64; 131072];
-    let mut lent = [0u8; 524288];
-    of_line(
-        kind,
-        line,
-        n,
-        out,
-        &mut weights,
-        &mut starts,
-        &mut sizes,
-        &mut excesses,
-        &mut lent,
-    )
-}
-
-// WEIGHTS, STARTS, SIZES and EXCESSES.
-fn of_line(
-    kind: FilterType,
+// The line's answer.
+pub(crate) fn of_line(
     line: &[u8],
     n: usize,
     out: &mut [u8],
@@ -49,6 +15,14 @@ fn of_line(
     excesses: &mut [i64],
     lent: &mut [u8],
 ) -> Said {
+    let f = request_fields::first_fault(line, b"kwwwwJWWQm");
+    if f.reason != 0 {
+        return answer_lines::told(answer_lines::bad(f.word, f.reason, n, out));
+    }
+    let kind_read = filter_fields::kind_at(line, 1);
+    let Kind::Is(kind) = kind_read else {
+        return answer_lines::told(answer_lines::bad(2, b'k', n, out));
+    };
     let a: usize = 0;
     let slots = i32s::read(line, 6, weights);
     let i = u32s::read(line, 7, starts);

@@ -1,5 +1,7 @@
 // The request `store SLOTS CALLS` (docs/PROTOCOL.md), answered by `shared_store`: a store of so many slots, and calls of its two clients one after the other. All calls
 // are looked at before the first is made, so that a line with a bad one is answered as bad and nothing is run.
+#![tactic(auto)]
+
 mod calls;
 mod made;
 mod shapes;
@@ -20,60 +22,15 @@ fn slot_count(line: &[u8], most: usize) -> usize
     n
 }
 
-// The line's answer, where it is this request. Its lists are laid out for no other line.
-pub fn answer(line: &[u8], s: Said, out: &mut [u8]) -> Said {
-    if s.done {
-        return s;
-    }
-    if !fields::is(line, 0, b"store") {
-        return s;
-    }
-    let f = request_fields::first_fault(line, b"nk");
-    if f.reason != 0 {
-        return answer_lines::told(answer_lines::bad(f.word, f.reason, s.n, out));
-    }
-    judged(line, s.n, out)
+// Whether the line is this request.
+pub fn asked(line: &[u8]) -> bool {
+    fields::is(line, 0, b"store")
 }
 
-// The list of `fitted`, and nothing else: one call.
-fn judged(line: &[u8], n: usize, out: &mut [u8]) -> Said {
-    let mut call = [0u8; 262144];
-    fitted(line, n, out, &mut call)
-}
-
-// The answers to the calls, or that one of them does not fit. Each is copied into the list `call`.
-fn fitted(line: &[u8], n: usize, out: &mut [u8], call: &mut [u8]) -> Said {
-    let from = calls::first(line);
-    if !shapes::all_fit(line, from, call) {
-        return answer_lines::told(answer_lines::bad(3, b'c', n, out));
-    }
-    lists(line, n, out, call)
-}
-
-// The lists of `of_line`, which are those of an empty store, and nothing else: one call.
-fn lists(line: &[u8], n: usize, out: &mut [u8], call: &mut [u8]) -> Said {
-    let mut numbers = [0u32; 10];
-    let mut slots = [0i32; 131072];
-    let mut starts = [0u32; 16384];
-    let mut sizes = [0u32; 16384];
-    let mut excesses = [0i64; 16384];
-    of_line(
-        line,
-        n,
-        out,
-        call,
-        &mut numbers,
-        &mut slots,
-        &mut starts,
-        &mut sizes,
-        &mut excesses,
-    )
-}
-
-// The calls, one after the other, on a store of SLOTS slots.
-fn of_line(
+// The line's answer, where it is this request. The lists are those of an empty store.
+pub fn answer(
     line: &[u8],
-    n: usize,
+    s: Said,
     out: &mut [u8],
     call: &mut [u8],
     numbers: &mut [u32],
@@ -82,8 +39,21 @@ fn of_line(
     sizes: &mut [u32],
     excesses: &mut [i64],
 ) -> Said {
-    let a: usize = 0;
+    if s.done {
+        return s;
+    }
+    if !asked(line) {
+        return s;
+    }
+    let f = request_fields::first_fault(line, b"nk");
+    if f.reason != 0 {
+        return answer_lines::told(answer_lines::bad(f.word, f.reason, s.n, out));
+    }
     let from = calls::first(line);
+    if !shapes::all_fit(line, from, call) {
+        return answer_lines::told(answer_lines::bad(3, b'c', s.n, out));
+    }
+    let a: usize = 0;
     let k = slot_count(line, slots.len());
     answer_lines::told(made::all(
         line,
@@ -94,7 +64,7 @@ fn of_line(
         starts,
         sizes,
         excesses,
-        n,
+        s.n,
         out,
     ))
 }

@@ -1,45 +1,34 @@
 // The request `story LINES ROW WINDOW PRECISION WEIGHTS STARTS SIZES EXCESSES SAMPLES LINE COLUMN ROOM`, answered by `story`.
+#![tactic(auto)]
+
 use answer_lines::{Said, emit};
 use request_fields::{fields, i32s, i64s, u8s, u16s, u32s};
 use windows::DisplayLine;
 
-// The line's answer, where it is this request. Its lists are laid out for no other line.
-pub fn answer(line: &[u8], s: Said, out: &mut [u8]) -> Said {
+// The line's answer, where it is this request.
+pub fn answer(
+    line: &[u8],
+    s: Said,
+    out: &mut [u8],
+    weights: &mut [i32],
+    starts: &mut [u32],
+    sizes: &mut [u32],
+    excesses: &mut [i64],
+    samples: &mut [u16],
+    room: &mut [u8],
+) -> Said {
     if s.done {
         return s;
     }
-    if !fields::is(line, 0, b"story") {
-        return s;
+    if fields::is(line, 0, b"story") {
+        return of_line(
+            line, s.n, out, weights, starts, sizes, excesses, samples, room,
+        );
     }
-    let f = request_fields::first_fault(line, b"wwwwJWWQHwwm");
-    if f.reason != 0 {
-        return answer_lines::told(answer_lines::bad(f.word, f.reason, s.n, out));
-    }
-    lists(line, s.n, out)
+    s
 }
 
-// The lists of `of_line`, and nothing else: one call.
-fn lists(line: &[u8], n: usize, out: &mut [u8]) -> Said {
-    let mut weights = [0i32; 131072];
-    let mut starts = [0u32; 131072];
-    let mut sizes = [0u32; 131072];
-    let mut excesses = [0i64; 131072];
-    let mut samples = [0u16; 131072];
-    let mut room = [0u8; 524288];
-    of_line(
-        line,
-        n,
-        out,
-        &mut weights,
-        &mut starts,
-        &mut sizes,
-        &mut excesses,
-        &mut samples,
-        &mut room,
-    )
-}
-
-// WEIGHTS, STARTS, SIZES and EXCESSES.
+// The line's answer.
 fn of_line(
     line: &[u8],
     n: usize,
@@ -51,6 +40,10 @@ fn of_line(
     samples: &mut [u16],
     room: &mut [u8],
 ) -> Said {
+    let f = request_fields::first_fault(line, b"wwwwJWWQHwwm");
+    if f.reason != 0 {
+        return answer_lines::told(answer_lines::bad(f.word, f.reason, n, out));
+    }
     let a: usize = 0;
     let slots = i32s::read(line, 5, weights);
     let i = u32s::read(line, 6, starts);

@@ -1,4 +1,6 @@
 // The request `build KIND ADAPT AXIS SW SH OUT L T W H NSLOTS NSTARTS NSIZES`, answered by `coefficients`.
+#![tactic(auto)]
+
 ghost use Rattle.std.specs.Prelude.{◌≤◌};
 
 use answer_lines::{Said, emit};
@@ -8,8 +10,15 @@ use filters::FilterType;
 use plans::{Axis, Request};
 use request_fields::{f64s, fields, u32s};
 
-// The line's answer, where it is this request. Its lists are laid out for no other line.
-pub fn answer(line: &[u8], s: Said, out: &mut [u8]) -> Said {
+// The line's answer, where it is this request.
+pub fn answer(
+    line: &[u8],
+    s: Said,
+    out: &mut [u8],
+    slots: &mut [f64],
+    starts: &mut [u32],
+    sizes: &mut [u32],
+) -> Said {
     if s.done {
         return s;
     }
@@ -24,19 +33,19 @@ pub fn answer(line: &[u8], s: Said, out: &mut [u8]) -> Said {
     let Kind::Is(kind) = kind_read else {
         return answer_lines::told(answer_lines::bad(2, b'k', s.n, out));
     };
-    lists(request_at(kind, line, 2), line, s.n, out)
-}
-
-// The lists of `lend`, and nothing else: one call.
-fn lists(r: Request, line: &[u8], n: usize, out: &mut [u8]) -> Said {
-    let mut slots = [0.0f64; 131072];
-    let mut starts = [0u32; 131072];
-    let mut sizes = [0u32; 131072];
-    lend(r, line, n, out, &mut slots, &mut starts, &mut sizes)
+    lists(
+        request_at(kind, line, 2),
+        line,
+        s.n,
+        out,
+        slots,
+        starts,
+        sizes,
+    )
 }
 
 // The lists are lent as long as the last three words say.
-fn lend(
+fn lists(
     r: Request,
     line: &[u8],
     n: usize,

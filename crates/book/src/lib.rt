@@ -1,5 +1,7 @@
 // `book`: the numbers of a release book, over one lent text of sheets, end to end. It walks with the readers' scanners; no set is kept and no slots are lent. The first bad
 // sheet stops the run, and the report is for the sheets before it. A count is at most the text's length, since every sheet and every window has bytes of its own.
+#![tactic(auto)]
+
 mod first;
 mod none;
 

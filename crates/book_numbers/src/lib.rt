@@ -1,5 +1,7 @@
 // `book_numbers`: the numbers of a release book. A `Report` says of some sheets how many they are, how many windows they have, the smallest and the largest excess,
 // how many windows fail the flat premise and how many have a negative weight. `window_report` is that of one window; `join` that of two parts, one after the other.
+#![tactic(auto)]
+
 mod joins;
 mod marks;
 

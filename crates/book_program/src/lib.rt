@@ -1,6 +1,8 @@
 // The program `release_book`: the report of all files that its arguments name, one after the other. `sheet_files` brings a text, `book` reads it, `join` adds its report to that
 // of the files before. Standard output has the report, standard error the first bad sheet's file, byte and line, where there is one; the files after that are not read.
 // No contract says what is read or printed, since none could speak of the streams; every function is safe at every argument.
+#![tactic(auto)]
+
 mod told;
 
 use book_numbers::{EMPTY, Report, join};

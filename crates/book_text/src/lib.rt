@@ -1,5 +1,7 @@
 // `book_text`: the report of a release book as seven key=value lines. `write_report` lays `report_text` over the beginning of a lent list, or answers No. 11. The text's
 // length comes from the same run over a list of one byte, since what falls past a list's end is not written and counted all the same.
+#![tactic(auto)]
+
 mod keys;
 
 ghost use Rattle.std.specs.Prelude.{◌≡◌, length};

@@ -13,7 +13,7 @@ use Rattle.orders.specs.Negative.{some_negative_value}
 use Rattle.windows.specs.Set.{excess}
 use Rattle.scan.specs.Form.{Found}
 use Rattle.scan.specs.Forms.{run}
-use Rattle.scan.proofs.PieceLaws.{placeAt}
+use Rattle.scan.proofs.PieceLaws.{place_at}
 use Rattle.scan.proofs.RunText.{run_long}
 use Rattle.sheet_scan.specs.Lines.{Row, weight_item, open_line, window_line, window_lines}
 use Rattle.sheet_scan.specs.Rows.{no_row, slot_at, size_at, excess_at}
@@ -40,7 +40,7 @@ module _ (lines window limit outs precision : ℕ) (text : List ℕ) (mid : ℕ)
     mark_is rows next f =
         let o = own lines window limit outs text mid small g.lined l opened rows next f in
         let vs = (get_or rows i no_row).weights in
-        let to = placeAt (window_line lines window limit) mid rows (suc i) in
+        let to = place_at (window_line lines window limit) mid rows (suc i) in
         let e-is : e ≡ excess_at precision rows i = (worked vs to o.2).0 ∙ ap (excess precision (slot_at rows i)) (sym o.1) in
         let b-is : b ≡ some_negative_value (slot_at rows i) (size_at rows i) = looked vs to o.2 ∙ ap (some_negative_value (slot_at rows i)) (sym o.1) in
         λ k. mark precision (e-is k) (b-is k)

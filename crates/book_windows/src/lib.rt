@@ -1,4 +1,6 @@
 // `book_windows`: the numbers of one sheet's windows, from windows' lines that were scanned before: nothing is kept of them. Lent to `book`, which scans first.
+#![tactic(auto)]
+
 mod weights;
 
 ghost use Rattle.std.specs.Prelude.{◌≡◌, ◌^◌, ◌≤◌, length};

@@ -1,5 +1,7 @@
 // `clips`: a sum that is already shifted, clipped to a sample. `clip8` reads CLIP8_LOOKUPS as the Rust does, after a test of the range; `clamp8` gives the same
 // without the table, for the u8 pass; `clip16` is the clip of the u16 pass. All are `clipped M` of `integers`, M being the largest sample.
+#![tactic(auto)]
+
 mod table;
 
 ghost use Rattle.std.specs.Prelude.{◌≡◌, ◌<◌, pos};

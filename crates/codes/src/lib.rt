@@ -1,5 +1,7 @@
 // `codes`: the numbers of include/mirror.h that stand for a filter's name, an axis and a centring, and what each names. The crates `mirror_*` share it; each answers
 // a code that names nothing itself, with `bad_code`, before it asks here.
+#![tactic(auto)]
+
 ghost use Rattle.std.specs.Prelude.{◌≡◌};
 ghost use Rattle.codes.specs.Codes.{filter_of, code_of, axis_of, centring_of, no_codes};
 

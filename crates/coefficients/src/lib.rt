@@ -1,6 +1,8 @@
 // `coefficients`: weight sets. `build` judges a `Request` (No. 16, then 1 to 8) and writes for each display line the window of camera lines that it is made of:
 // the window's start, its size and its weights, in `window` slots a line. Operation by operation as `precompute_coefficients` of the Rust, in three
 // steps: `plans` judges and plans, `plan_windows` fills the lists window by window, `line_weights` weighs the lines of one window.
+#![tactic(auto)]
+
 mod answer;
 
 ghost use Rattle.std.specs.Prelude.{◌≡◌, length};

@@ -1,5 +1,7 @@
 // The program `compare_frames`: whether two raw frames have the same samples, of 16 bits, or of 8 where a fourth word is given; A B ROW. `search` goes through both files, `found` is what it finds, `said` has the answer.
 // No contract says what is read or printed, since none could speak of the streams; every function is safe at every argument.
+#![tactic(auto)]
+
 mod found;
 mod said;
 mod search;

@@ -1,4 +1,6 @@
 // `crop_box`: which part of the camera image is shown. `crop` judges a `CropBox` against the image's sides (No. 1 to 5). `crop_fit` makes a box.
+#![tactic(auto)]
+
 mod answer;
 mod checks;
 

@@ -1,5 +1,7 @@
 // `crop_edges`: an edge of the crop as a person writes it. `read_edge` takes a decimal of up to 15 digits, which it rounds once, or `0x` and the
 // 16 hexadecimal digits of a double's pattern.
+#![tactic(auto)]
+
 mod decimal;
 mod digits;
 mod pattern;

@@ -1,4 +1,6 @@
 // `crop_fit`: the part of the camera image that has the display's ratio of sides, placed by a `Centring` (`fit_src_into_dst_size`). `crop_box` judges it.
+#![tactic(auto)]
+
 mod answer;
 mod fitting;
 mod ratios;

@@ -1,6 +1,8 @@
 // The program `demo_frame`: a raw frame of LINES camera lines of ROW samples, to standard output, low byte first; the same at every run. Four panels side by side: a ramp down the lines, bars of
 // twelve lines with sharp edges, a ramp that goes on across lines and columns, and noise from a fixed seed, of which all panels have a grain. No contract says what is
 // written, since none could speak of the streams; every function is safe at every argument.
+#![tactic(auto)]
+
 mod picture;
 
 use frame_files::Whole;

@@ -12,7 +12,7 @@ use Rattle.windows.specs.Set.{excess}
 use Rattle.scan.specs.Form.{Found, Stopped}
 use Rattle.scan.specs.Forms.{fixed, run}
 use Rattle.scan.proofs.FieldLaws.{found_within, apart_key}
-use Rattle.scan.proofs.PieceLaws.{placeAt}
+use Rattle.scan.proofs.PieceLaws.{place_at}
 use Rattle.scan.proofs.RunLaws.{Run, run_none, run_more, run_stopped, run_found}
 use Rattle.sheet_scan.specs.Lines.{Row, weight_item, open_line, window_line, window_lines}
 use Rattle.sheet_scan.specs.Rows.{no_row, slot_at, size_at, excess_at}
@@ -44,7 +44,7 @@ module _ (lines window limit outs precision : ℕ) (text : List ℕ) (mid at : �
     value_is : (rows : List Row) (next : ℕ) → Found (window_lines lines window limit outs) text mid rows next → signed v ++ (b ∷ []) ≡ right rows i
     value_is rows next f =
         let o = own lines window limit outs text mid small g.lined l opened rows next f in
-        let e : v ≡ excess_at precision rows i = (worked (get_or rows i no_row).weights (placeAt (window_line lines window limit) mid rows (suc i)) o.2).0 ∙ ap (excess precision (slot_at rows i)) (sym o.1) in
+        let e : v ≡ excess_at precision rows i = (worked (get_or rows i no_row).weights (place_at (window_line lines window limit) mid rows (suc i)) o.2).0 ∙ ap (excess precision (slot_at rows i)) (sym o.1) in
         ap (λ (x : ℤ). signed x ++ (b ∷ [])) e ∙ ap (λ (c : ℕ). signed (excess_at precision rows i) ++ (c ∷ [])) end
 
     pub compared_more : {next : ℕ} → Found (fixed (signed v ++ (b ∷ []))) text q tt next → Compared after next (i + 1)

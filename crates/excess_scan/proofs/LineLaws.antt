@@ -11,7 +11,7 @@ use Rattle.scan.specs.Form.{Form, Found}
 use Rattle.scan.specs.Forms.{run}
 use Rattle.scan.proofs.FormLaws.{one_value}
 use Rattle.scan.proofs.SplitLaws.{found_split}
-use Rattle.scan.proofs.PieceLaws.{placeAt, piece_found}
+use Rattle.scan.proofs.PieceLaws.{place_at, piece_found}
 use Rattle.scan.proofs.FieldLaws.{found_within}
 use Rattle.sheet_scan.specs.Lines.{Row, weight_item, open_line, window_line}
 use Rattle.sheet_scan.specs.Rows.{no_row, start_at, size_at}
@@ -31,12 +31,12 @@ module _ (lines window limit outs : ℕ) (text : List ℕ) (at : ℕ) where
   record Line (rows : List Row) (p i : ℕ) : Type 0 where
     pub mid : ℕ
     pub opening : Found (open_line lines window i) text p (start_at rows i, size_at rows i) mid
-    pub items : Found (run (weight_item limit (size_at rows i)) 0 (size_at rows i)) text mid (get_or rows i no_row).weights (placeAt F at rows (suc i))
+    pub items : Found (run (weight_item limit (size_at rows i)) 0 (size_at rows i)) text mid (get_or rows i no_row).weights (place_at F at rows (suc i))
 
-  line_of : (rows : List Row) (next p i : ℕ) → Found (run F 0 outs) text at rows next → i < outs → p ≡ placeAt F at rows i → Line rows p i
+  line_of : (rows : List Row) (next p i : ℕ) → Found (run F 0 outs) text at rows next → i < outs → p ≡ place_at F at rows i → Line rows p i
   line_of rows next p i f l e =
       let r = get_or rows i no_row in
-      let piece = subst (λ (k : ℕ). Found (F i) text k r (placeAt F at rows (suc i))) (sym e) (piece_found F outs f no_row i l) in
+      let piece = subst (λ (k : ℕ). Found (F i) text k r (place_at F at rows (suc i))) (sym e) (piece_found F outs f no_row i l) in
       let both = found_split (open_line lines window i) (λ (q : ℕ × ℕ). run (weight_item limit q.1) 0 q.1) {a = (r.start, r.size)} {b = r.weights}
       (record { good = ((piece.good.0, piece.good.1, piece.good.2), piece.good.3); place = piece.place; begins = piece.begins }) in
       record { mid = _; opening = both.0; items = both.1 }
@@ -48,7 +48,7 @@ module _ (lines window limit outs : ℕ) (text : List ℕ) (at : ℕ) where
 
   module _ (lines_small : lines < 2 ^ 32) {p i start size mid : ℕ} (g : Lined p i) (l : i < outs) (opened : Found (open_line lines window i) text p (start, size) mid) where
     abbrev pub Own : List Row → Type 0
-    Own rows = (start_at rows i ≡ start) × (size_at rows i ≡ size) × Found (run (weight_item limit size) 0 size) text mid (get_or rows i no_row).weights (placeAt F at rows (suc i))
+    Own rows = (start_at rows i ≡ start) × (size_at rows i ≡ size) × Found (run (weight_item limit size) 0 size) text mid (get_or rows i no_row).weights (place_at F at rows (suc i))
 
     pub own : (rows : List Row) (next : ℕ) → Found (run F 0 outs) text at rows next → Own rows
     own rows next f =
@@ -58,18 +58,18 @@ module _ (lines window limit outs : ℕ) (text : List ℕ) (at : ℕ) where
         let e-size : size_at rows i ≡ size = ap {B = ℕ} (λ (q : ℕ × ℕ). q.1) same.0 in (
           e-start,
           e-size,
-          subst (λ (m : ℕ). Found (run (weight_item limit size) 0 size) text m (get_or rows i no_row).weights (placeAt F at rows (suc i))) same.1
-              (subst (λ (n : ℕ). Found (run (weight_item limit n) 0 n) text line.mid (get_or rows i no_row).weights (placeAt F at rows (suc i))) e-size line.items),
+          subst (λ (m : ℕ). Found (run (weight_item limit size) 0 size) text m (get_or rows i no_row).weights (place_at F at rows (suc i))) same.1
+              (subst (λ (n : ℕ). Found (run (weight_item limit n) 0 n) text line.mid (get_or rows i no_row).weights (place_at F at rows (suc i))) e-size line.items),
         )
 
     pub lined_items : There (run F 0 outs) text at → There (run (weight_item limit size) 0 size) text mid
-    lined_items there = let o = own there.0 there.1 there.2 in ((get_or there.0 i no_row).weights, placeAt F at there.0 (suc i), o.2)
+    lined_items there = let o = own there.0 there.1 there.2 in ((get_or there.0 i no_row).weights, place_at F at there.0 (suc i), o.2)
 
     pub lined_more : {q : ℕ} → There (run F 0 outs) text at → Whatever (run (weight_item limit size) 0 size) text mid (λ vs next. q ≡ next) → Lined q (i + 1)
     lined_more {q} there place =
         let some = own there.0 there.1 there.2 in
         record {
-          within = rw (place (get_or there.0 i no_row).weights (placeAt F at there.0 (suc i)) some.2) (found_within (run (weight_item limit size) 0 size) (found_within (open_line lines window i) g.within opened) some.2);
+          within = rw (place (get_or there.0 i no_row).weights (place_at F at there.0 (suc i)) some.2) (found_within (run (weight_item limit size) 0 size) (found_within (open_line lines window i) g.within opened) some.2);
           few = omega arith;
-          place = λ rows next f. place (get_or rows i no_row).weights (placeAt F at rows (suc i)) (own rows next f).2 ∙ ap (λ (n : ℕ). placeAt F at rows n) (sym (add-one i));
+          place = λ rows next f. place (get_or rows i no_row).weights (place_at F at rows (suc i)) (own rows next f).2 ∙ ap (λ (n : ℕ). place_at F at rows n) (sym (add-one i));
         }

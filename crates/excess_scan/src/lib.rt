@@ -1,5 +1,7 @@
 // `excess_scan`: the line of the excesses, looked over beside the windows' lines that were scanned before: `scan_excesses` works out each window's excess from its line and
 // compares. It gives the place after the line, or where the text leaves the one right text. The pieces of a right window's line are lent to the reader too.
+#![tactic(auto)]
+
 mod line;
 mod pieces;
 mod totals;

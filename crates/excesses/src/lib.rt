@@ -1,6 +1,8 @@
 // `excesses`: by how much each window's weights pass 2^precision, worked out, written and judged. `stored_fits16` and `stored_fits32` are the one judge of a stored set,
 // which the passes over integers and the sheet writers ask: sides, windows, counts, precision, excesses (`unfit`, No. 1 and No. 10). Both stores are one function over two
 // lists, of which a store has one. The other functions are lent to the normalisers, the writers and the readers.
+#![tactic(auto)]
+
 mod judge;
 mod sums;
 

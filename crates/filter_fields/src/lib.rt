@@ -1,4 +1,6 @@
 // The fields of a request that are the port's own: `kind_at`, a filter's kind, and `box_at`, a crop box.
+#![tactic(auto)]
+
 use crop_box::CropBox;
 use filters::FilterType;
 use request_fields::fields;

@@ -1,6 +1,8 @@
 // `filters`: `FilterType`, the four names that a sheet or a request has; `Filter`, the three that a set is built with, and `pick`, which leads from a name to its
 // filter. `support`, how far a filter reaches, and `value`, its weight at a distance: each operation is a binary64 one, rounded once, in the order of the
 // Rust: not contracted and not rearranged, since either would change a last bit.
+#![tactic(auto)]
+
 mod names;
 
 ghost use Rattle.std.specs.Prelude.{◌≡◌};

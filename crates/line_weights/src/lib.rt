@@ -1,5 +1,7 @@
 // `line_weights`: the camera lines about one centre and their weights: the range, zeros dropped at both ends, the running total, the division by it.
 // For `plan_windows`, which has a row of slots for each window.
+#![tactic(auto)]
+
 mod ranges;
 mod weights;
 

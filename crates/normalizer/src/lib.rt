@@ -1,5 +1,7 @@
 // `normalizer`: weights as integers, in the 16-bit or the 32-bit store. A set of doubles gets one `precision`, found from its largest weight; each weight
 // in use becomes weight x 2^precision rounded half away from zero, the other slots 0; each window gets its `excess`. A set that does not fit is refused, and nothing is written.
+#![tactic(auto)]
+
 mod answer;
 mod judge;
 

@@ -1,6 +1,8 @@
 // `numbers`: document 01's number helpers. On values: `finite`, `abs`, `floor`, `ceil`, `round` (half away from zero), `widen` (f32 to f64) and
 // `narrow` (f64 to f32, ties to even; it says too whether the result is infinite). The same on bit patterns, `abs_bits` and so on, where every NaN gives the quiet NaN with sign and payload 0.
 // The roundings work on the pattern of the size |x| (`whole`) and put the sign back, so that a zero result has the argument's sign.
+#![tactic(auto)]
+
 mod bits;
 mod narrowing;
 mod whole;

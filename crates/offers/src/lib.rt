@@ -1,6 +1,8 @@
 // `offers`: repairs of the weights of one window. Whether offered weights are one (`window_refused`, a test of `Repair`), whether the window has one (`window_lacks`), and the
 // steps of a single weight, by which `offer_rows` writes the weights that we offer ourselves. Judging and counting are one function for both stores, over two lists of
 // which a store has one. Lent to the walks over all windows.
+#![tactic(auto)]
+
 mod judge;
 mod own;
 mod steps;

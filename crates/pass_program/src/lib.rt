@@ -2,6 +2,8 @@
 // the sheet, `frame_files` the frame's shape; `columns` says which columns are asked for, `plan` how they go in strips, `places` reads a strip and writes what becomes of it, `wide` and `narrow` run the u16 and the u8
 // pass, and `said` tells how far it is, or why it ends. Standard output is the frame that goes out, written by places, so it has to be a file. No contract says what is read or
 // written, since none could speak of the streams; every function is safe at every argument.
+#![tactic(auto)]
+
 mod columns;
 mod narrow;
 mod narrow_sheet;

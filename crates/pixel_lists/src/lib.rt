@@ -1,5 +1,7 @@
 // `pixel_lists`: what a list of four-component pixels (three colours, then alpha) is, for components of any width: which lists are refused, the answer, and its
 // number. For `alpha` and `alpha_u16`.
+#![tactic(auto)]
+
 mod answer;
 
 ghost use Rattle.std.specs.Prelude.{◌≡◌};

@@ -1,8 +1,5 @@
 pub mod PutLaws
-pub mod TileLaws
-pub mod SumLaws
-pub mod SlotLaws
-pub mod WindowLaws
-pub mod GroupLaws
-pub mod RowLaws
+pub mod OnceLaws
+pub mod BlockLaws
+pub mod StripLaws
 pub mod Sure

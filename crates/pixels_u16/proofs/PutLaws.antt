@@ -1,4 +1,4 @@
--- Values put in their places of a list: one by one, row by row, or as a part of it. Cited by the functions of `tile`, `output`, `rows` and `strips`. Assumes nothing.
+-- Values put in their places of a list, one by one or as a part of it. Cited by the functions of `blocks` and `strips`. Assumes nothing.
 use mathlib.Core.Path.{◌≡◌, refl, sym, ap, ◌∙◌, subst}
 use mathlib.Core.Bool.{Bool, true, false}
 use mathlib.Core.List.{List, ◌++◌}
@@ -11,7 +11,7 @@ use lib.Seq.{get_or-set_same, get_or-set_other, get_or-append-add, get_or-drop}
 use borrow.Author.Count.{below_more}
 use borrow.Author.Tests.{eqb-true, eqb-false, ltb-true, ltb-false}
 use Rattle.lists.proofs.StoreLaws.{part_low, part_here, below_block}
-use Rattle.pixels_u16.specs.Places.{Samples, behind, Put, PutRows}
+use Rattle.pixels_u16.specs.Places.{behind, Put}
 
 -- a store of f's value where it belongs spoils no other of f's
 set_right : (f : ℕ → ℕ) (l : List ℕ) (i v x : ℕ) → i < length l → v ≡ f i → get_or l x 0 ≡ f x → get_or (set l i v) x 0 ≡ f x
@@ -38,40 +38,23 @@ put_more {value = value} {place = place} {old = old} {now = now} t i v p l ei ev
           below_more (λ (x : ℕ). get_or (set now i v) (place x) 0 ≡ f (place x)) t (λ x k. set_right f now i v (place x) l e (q.1 x k)) (ap (λ (y : ℕ). get_or (set now i v) y 0) (sym ei) ∙ get_or-set_same now i v 0 l ∙ e ∙ ap f ei),
         )
 
--- no rows, one row more, and the same rows with more values each
-pub rows_none : {value place : ℕ → ℕ → ℕ} {old : List ℕ} (m : ℕ) → PutRows value place 0 m old old
-rows_none m = record { to = λ f h. ((λ x e. e), λ y l. absurd (not-suc-le-zero l)) }
+-- the same values, counted otherwise
+pub put_as : {value value₂ place place₂ : ℕ → ℕ} {old new : List ℕ} (n : ℕ) → ((t : ℕ) → t < n → value₂ t ≡ value t) → ((t : ℕ) → t < n → place t ≡ place₂ t) → Put value place n old new → Put value₂ place₂ n old new
+put_as {new = new} n ev ep p = record {
+  to = λ f h.
+      let q = p.to f (λ t l. sym (ev t l) ∙ h t l ∙ ap f (sym (ep t l))) in
+      (q.0, λ t l. ap (λ (y : ℕ). get_or new y 0) (sym (ep t l)) ∙ q.1 t l ∙ ap f (ep t l));
+}
 
-pub rows_more : {value place : ℕ → ℕ → ℕ} {old mid new : List ℕ} (y m : ℕ) → PutRows value place y m old mid → Put (value y) (place y) m mid new → PutRows value place (y + 1) m old new
-rows_more {value = value} {place = place} {old = old} {new = new} y m p r = record { to = go }
+-- some, and then some more
+pub put_join : {value place value₂ place₂ : ℕ → ℕ} {old mid new : List ℕ} (m n : ℕ) → Put value place m old mid → Put value₂ place₂ n mid new → ((t : ℕ) → t < n → value (m + t) ≡ value₂ t) → ((t : ℕ) → t < n → place (m + t) ≡ place₂ t) → Put value place (m + n) old new
+put_join {value = value} {place = place} {old = old} {new = new} m n p r ev ep = record { to = go }
   where
-    go : (f : ℕ → ℕ) → ((j : ℕ) → j < y + 1 → (t : ℕ) → t < m → value j t ≡ f (place j t))
-        → ((x : ℕ) → get_or old x 0 ≡ f x → get_or new x 0 ≡ f x) × ((j : ℕ) → j < y + 1 → (t : ℕ) → t < m → get_or new (place j t) 0 ≡ f (place j t))
+    go : (f : ℕ → ℕ) → ((t : ℕ) → t < m + n → value t ≡ f (place t)) → ((x : ℕ) → get_or old x 0 ≡ f x → get_or new x 0 ≡ f x) × ((t : ℕ) → t < m + n → get_or new (place t) 0 ≡ f (place t))
     go f h =
-        let a = p.to f (λ j l. h j (omega arith)) in
-        let b = r.to f (h y (omega arith)) in
-        ((λ x e. b.0 x (a.0 x e)), below_more (λ (j : ℕ). (t : ℕ) → t < m → get_or new (place j t) 0 ≡ f (place j t)) y (λ j l t k. b.0 (place j t) (a.1 j l t k)) b.1)
-
-pub rows_wider : {value place value₂ place₂ : ℕ → ℕ → ℕ} {old mid new : List ℕ} (n l m : ℕ) → PutRows value place n l old mid → PutRows value₂ place₂ n m mid new
-    → ((y : ℕ) → (t : ℕ) → value y (l + t) ≡ value₂ y t) → ((y : ℕ) → (t : ℕ) → place y (l + t) ≡ place₂ y t) → PutRows value place n (l + m) old new
-rows_wider {value = value} {place = place} {old = old} {new = new} n l m p r ev ep = record { to = go }
-  where
-    go : (f : ℕ → ℕ) → ((y : ℕ) → y < n → (t : ℕ) → t < l + m → value y t ≡ f (place y t))
-        → ((x : ℕ) → get_or old x 0 ≡ f x → get_or new x 0 ≡ f x) × ((y : ℕ) → y < n → (t : ℕ) → t < l + m → get_or new (place y t) 0 ≡ f (place y t))
-    go f h =
-        let a = p.to f (λ y k t q. h y k t (omega arith)) in
-        let b = r.to f (λ y k t q. sym (ev y t) ∙ h y k (l + t) (omega arith) ∙ ap f (ep y t)) in (
-          (λ x e. b.0 x (a.0 x e)),
-          λ y k. below_block (λ (t : ℕ). get_or new (place y t) 0 ≡ f (place y t)) l m (λ t q. b.0 (place y t) (a.1 y k t q)) (λ t q. ap (λ (z : ℕ). get_or new z 0) (ep y t) ∙ b.1 y k t q ∙ ap f (sym (ep y t))),
-        )
-
--- a store of a sample leaves samples
-pub samples_set : (l : List ℕ) (i v : ℕ) → Samples l → i < length l → v ≤ 65535 → Samples (set l i v)
-samples_set l i v h in_List few x = go (eqb x i) refl
-  where
-    go : (d : Bool) → eqb x i ≡ d → get_or (set l i v) x 0 ≤ 65535
-    go true q = subst (λ (y : ℕ). get_or (set l i v) y 0 ≤ 65535) (sym (eqb-true x i q)) (rw (get_or-set_same l i v 0 in_List) few)
-    go false q = rw (get_or-set_other l i x v 0 (eqb-false x i q)) (h x)
+        let a = p.to f (λ t l. h t (omega arith)) in
+        let b = r.to f (λ t l. sym (ev t l) ∙ h (m + t) (omega arith) ∙ ap f (ep t l)) in
+        ((λ x e. b.0 x (a.0 x e)), below_block (λ (t : ℕ). get_or new (place t) 0 ≡ f (place t)) m n (λ t l. b.0 (place t) (a.1 t l)) (λ t l. ap (λ (y : ℕ). get_or new y 0) (ep t l) ∙ b.1 t l ∙ ap f (sym (ep t l))))
 
 -- a part written back: places that follow one another
 module _ (l part : List ℕ) (o k : ℕ) (fits : o + k ≤ length l) (same : length part ≡ k) where

@@ -1,4 +1,6 @@
 // `plan_windows`: the windows of a plan, written line by line into lent lists: starts, sizes and weights. For `coefficients`, which judges the lists first.
+#![tactic(auto)]
+
 mod lines;
 
 pub use lines::all_windows;

@@ -1,4 +1,6 @@
 // `plans`: from a request for a weight set to the plan of its windows (edges, scale, radius, window size), or its refusal, No. 16, then 1 to 6. For `coefficients`.
+#![tactic(auto)]
+
 mod planning;
 
 pub use planning::{planned_refusal, prepare};

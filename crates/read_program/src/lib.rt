@@ -1,6 +1,8 @@
 // The program `read_back`: the sheet of a file. `sheet_files` brings the text, `reader` judges it; `told` says in words what a sheet says. Standard output
 // has the answer, standard error the reason for a person. No contract says what is read or printed, since none could speak of the streams; every function
 // is safe at every argument.
+#![tactic(auto)]
+
 mod told;
 
 use reader::Reading;

@@ -1,5 +1,7 @@
 // `reader`: a weight set read back from the text of its sheet. `read_sheet` takes sheets of both stores, `read_sheet16` those of the 16-bit one. The text is looked over
 // to its end (`judge`, with the scanners of `sheet_scan` and `excess_scan`) before anything is stored, so a refusal leaves the lent lists as they were; only then are its lines read into them.
+#![tactic(auto)]
+
 mod answer;
 mod judge;
 mod read;

@@ -1,4 +1,6 @@
 // `refusal`: why a call is refused, one case of `Refusal` for each number of document 01's table and of document 02's requests, in their order.
+#![tactic(auto)]
+
 ghost use Rattle.std.specs.Prelude.{◌≡◌};
 ghost use Rattle.refusal.specs.Refusal.{number_of};
 

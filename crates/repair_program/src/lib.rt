@@ -2,6 +2,8 @@
 // `reader` judges it; `cutting` leaves the set's own part of the lists, `repairing` makes the offer and takes it over by the functions of the sheet's
 // store (`stores`), `printing` prints the sheet, `refused` says why nothing is repaired. Standard output has the sheet or the answer, standard error the
 // reason for a person. No contract says what is read or printed, since none could speak of the streams; every function is safe at every argument.
+#![tactic(auto)]
+
 mod cutting;
 mod printing;
 mod refused;

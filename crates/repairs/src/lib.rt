@@ -1,6 +1,8 @@
 // `repairs`: the rules of offered repairs, and their answers. An offer moves weights by at most 1 inside their type so that every window's total is 2^precision (`Repair`, one
 // window, in `offers`). `accept_offers` judges an offer for a stored set and takes it over, `make_offers` writes one of our own; what the two promise each other and the set
 // is proved here, over the definitions.
+#![tactic(auto)]
+
 mod answer;
 
 use refusal::Refusal;

@@ -2,6 +2,8 @@
 // that is not of its kind, too many words or too few. A line without a fault is then read field by field (`fields`) and list by list, a module for each
 // element type (`u8s` .. `f64s`), which also fills what is lent. No contract says what is read: none could speak of a text in general terms that is
 // shorter than the code. Every function is safe at every argument.
+#![tactic(auto)]
+
 mod convert;
 pub mod f32s;
 pub mod f64s;

@@ -11,6 +11,8 @@ use Rattle.row_u16.proofs.arithmetic.shift.Kinds as shift
 use Rattle.row_u16.proofs.arithmetic.shift.Reads as shift-reads
 use Rattle.row_u16.proofs.doubles.weight.Kinds as weight
 use Rattle.row_u16.proofs.doubles.weight.Reads as weight-reads
+use Rattle.row_u16.proofs.doubles.added.Kinds as added
+use Rattle.row_u16.proofs.doubles.added.Reads as added-reads
 use Rattle.row_u16.proofs.rounding.scaled.Kinds as scaled
 use Rattle.row_u16.proofs.rounding.scaled.Reads as scaled-reads
 use Rattle.row_u16.proofs.rounding.cut.Kinds as cut
@@ -30,6 +32,9 @@ shift_decides κs a x y s t p q = p ∙ sym q
 
 pub weight_decides : DecidesResult weight.ps weight.r weight-reads.Post
 weight_decides κs a x y s t p q = p ∙ sym q
+
+pub added_decides : DecidesResult added.ps added.r added-reads.Post
+added_decides κs a x y s t p q = p ∙ sym q
 
 pub scaled_decides : DecidesResult scaled.ps scaled.r scaled-reads.Post
 scaled_decides κs a x y s t p q = p ∙ sym q

@@ -21,8 +21,8 @@ pub fn weight(w: i32) -> f64
 }
 
 // One weight times one sample, added.
-fn added(acc: f64, w: f64, s: u16) -> f64
-    ensures { result ≡ add binary64 acc (mul binary64 (of_int binary64 (pos s)) w) }
+pub fn added(acc: f64, w: f64, s: u16) -> f64
+    ensures answer { result ≡ add binary64 acc (mul binary64 (of_int binary64 (pos s)) w) }
 {
     acc + sample(s) * w
 }

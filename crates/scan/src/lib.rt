@@ -1,5 +1,7 @@
 // `scan`: pieces of text found at a place of a lent text, or the place where the text stops being like one. Nothing is kept of the text.
 // The functions are workers of the readers of sheets: the caller shows that the place is inside the text and that the range has a number.
+#![tactic(auto)]
+
 mod digits;
 mod fields;
 mod known;

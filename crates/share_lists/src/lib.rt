@@ -1,5 +1,7 @@
 // `share_lists`: the five lists of a shared store, judged and written. Whether the store is `closed` to a client, and whether a set that it puts in is `barred`; the
 // `Place` where its set stands; and a new set's numbers, starts and sizes laid in its part. Workers of `shared_store`.
+#![tactic(auto)]
+
 mod finding;
 mod judging;
 mod keeping;

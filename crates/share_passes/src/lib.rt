@@ -1,4 +1,6 @@
 // `share_passes`: the u16 pass with a set that stands in parts of the lists of a shared store. A worker of `shared_store`, which finds the place.
+#![tactic(auto)]
+
 ghost use Rattle.std.specs.Prelude.{◌≡◌, ◌≤◌, length};
 ghost use Rattle.vertical.specs.U16.{passed_u16, written_u16};
 ghost use Rattle.share_passes.specs.Inner.{set_in};

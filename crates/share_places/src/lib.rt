@@ -1,5 +1,7 @@
 // `share_places`: a set of a shared store placed in its client's part of the lists: made there by `store_sets`, its numbers, starts and sizes kept by `share_lists`. A worker
 // of `shared_store`, which asks first whether the set is barred.
+#![tactic(auto)]
+
 ghost use Rattle.std.specs.Prelude.{◌≡◌, false, ◌||◌, ◌+◌, ◌*◌, length, get_or};
 ghost use Rattle.made_sets.specs.Made.{made_of, answer_of};
 ghost use Rattle.shares.specs.Store.{store_of, share, closed};

@@ -1,6 +1,8 @@
 // `shared_store`: one weight store for two clients. `put` puts a client's set in the place of its former one, and `pass` is the u16 pass with the set that a client holds;
 // a restart is `share_restarts`. The store is five lists that are lent with each call: ten `numbers`, five a client (its share; camera
 // lines, windows, window size and precision of its set), the `slots`, and 8,192 `starts`, `sizes` and `excesses` a client. The contracts are the steps of the machine of `shares`.
+#![tactic(auto)]
+
 ghost use Rattle.std.specs.Prelude.{◌≡◌, length};
 ghost use Rattle.shares.specs.Store.{store_of, view_of};
 ghost use Rattle.shares.specs.Scratch.{scratch_of};

@@ -1,6 +1,8 @@
 // `sheet_files`: a sheet's text in the file that a program's one argument names, or one of several, for the programs that take such a file. `file` brings the bytes, `place` and
 // `marked` say where a text that is no sheet stops being one, `unread` why no text was judged; `streams` are the answer and the reason for a person. No
 // contract says what is read or printed, since none could speak of the streams; every function is safe at every argument.
+#![tactic(auto)]
+
 mod file;
 mod marked;
 mod place;

@@ -10,7 +10,7 @@ use Rattle.lists.proofs.TabLaws.{written_none, written_more}
 use Rattle.windows.specs.Set.{excess}
 use Rattle.scan.specs.Form.{Found}
 use Rattle.scan.specs.Forms.{run}
-use Rattle.scan.proofs.PieceLaws.{placeAt}
+use Rattle.scan.proofs.PieceLaws.{place_at}
 use Rattle.sheet_scan.specs.Lines.{Row, weight_item, open_line, window_line, window_lines}
 use Rattle.sheet_scan.specs.Rows.{no_row, start_at, size_at, slot_at, excess_at}
 use Rattle.sheet_scan.specs.Whole.{There, Whatever, slot_of}
@@ -44,7 +44,7 @@ module _ (lines window limit outs precision : ℕ) (text : List ℕ) (at : ℕ) 
     each = λ rows next f.
         let o = own lines window limit outs text at small g.lined l opened rows next f in
         let so_far = g.each rows next f in
-        let is : v ≡ excess_at precision rows i = (worked (get_or rows i no_row).weights (placeAt (window_line lines window limit) at rows (suc i)) o.2).0 ∙ ap (excess precision (slot_at rows i)) (sym o.1) in (
+        let is : v ≡ excess_at precision rows i = (worked (get_or rows i no_row).weights (place_at (window_line lines window limit) at rows (suc i)) o.2).0 ∙ ap (excess precision (slot_at rows i)) (sym o.1) in (
           (written_more {k = i} {f = start_at rows} (record { long = g.long_s; is = so_far.0 }) (omega arith) (sym o.0)).is,
           (written_more {k = i} {f = size_at rows} (record { long = g.long_z; is = so_far.1 }) (omega arith) (sym o.1)).is,
           (written_more {k = i} {f = excess_at precision rows} (record { long = g.long_e; is = so_far.2 }) (omega arith) is).is,

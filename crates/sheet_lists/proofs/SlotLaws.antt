@@ -16,7 +16,7 @@ use Rattle.lists.proofs.TabLaws.{Written, written_none, written_row, length_tab,
 use Rattle.scan.specs.Form.{Found}
 use Rattle.scan.specs.Forms.{run}
 use Rattle.scan.proofs.RunText.{run_long}
-use Rattle.scan.proofs.PieceLaws.{placeAt}
+use Rattle.scan.proofs.PieceLaws.{place_at}
 use Rattle.sheet_scan.specs.Lines.{Row, weight_item, open_line, window_line}
 use Rattle.sheet_scan.specs.Rows.{no_row, slot_at}
 use Rattle.sheet_scan.specs.Whole.{There, Whatever, slot_of, no_weight}
@@ -76,7 +76,7 @@ module _ (lines window limit outs : ℕ) (text : List ℕ) (at : ℕ) (weights :
       λ rows next f.
       let o = own lines window limit outs text at small g.lined l opened rows next f in
       let before = g.each rows next f ∙ ap (λ (n : ℕ). front n (grid window (slot_at rows)) weights) (sym off) in
-      written_row i window a k (slot_at rows) (record { long = g.long; is = before }) off e-k fits (slots (get_or rows i no_row).weights (placeAt (window_line lines window limit) at rows (suc i)) o.2) in
+      written_row i window a k (slot_at rows) (record { long = g.long; is = before }) off e-k fits (slots (get_or rows i no_row).weights (place_at (window_line lines window limit) at rows (suc i)) o.2) in
       record {
         lined = lined_more lines window limit outs text at small g.lined l opened there place;
         off = next-off;

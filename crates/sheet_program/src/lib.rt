@@ -1,6 +1,8 @@
 // The program `print_sheet`: `words` reads what is asked, `making` builds the set, `stores` writes and prints its sheet; `unread`, `refused` and
 // `limits` answer where there is none. Standard output has the sheet, or one line that says why there is none; standard error has the reason in
 // words. No contract says what is read or printed, since none could speak of the streams; every function is safe at every argument.
+#![tactic(auto)]
+
 mod arguments;
 mod limits;
 mod making;

@@ -1,5 +1,7 @@
 // `sheet_scan`: the text of a sheet looked over at any place of a lent text, nothing kept. `scan_sizes` takes the kind line and the three size lines, `scan_rest` all
 // after them; each gives the place after its lines, or where the text stops being like the writer's. `wide` says whether sheets of the 32-bit store are taken too.
+#![tactic(auto)]
+
 mod heads;
 mod names;
 mod rest;

@@ -20,14 +20,6 @@ fn pixels_fit(components: u32, row: u32) -> bool
     row % components == 0
 }
 
-// How many pixels a row has, which are the lines of the exchanged frame.
-pub(crate) fn pixels(frame: PixelFrame) -> u32
-    requires { 1 ≤ frame.components }
-    ensures { result ≡ frame.row / frame.components }
-{
-    frame.row / frame.components
-}
-
 // Whether the pixels fit, and the sizes of the exchanged frame.
 pub(crate) fn sizes_fit(frame: PixelFrame, windows: usize) -> bool
     ensures { result ≡ not (bad_pixels frame.components frame.row || bad_size (frame.row / frame.components) windows (frame.rows * frame.components)) }
@@ -39,7 +31,7 @@ pub(crate) fn sizes_fit(frame: PixelFrame, windows: usize) -> bool
         return false;
     }
     let turned = Frame {
-        lines: pixels(frame),
+        lines: frame.row / frame.components,
         row: frame.rows * frame.components,
         first: 0,
         count: 0,
@@ -59,7 +51,7 @@ pub(crate) fn rows_fit(frame: PixelFrame, samples: usize, windows: usize, room: 
         return false;
     }
     let turned = Frame {
-        lines: pixels(frame),
+        lines: frame.row / frame.components,
         row: frame.rows * frame.components,
         first: frame.first * frame.components,
         count: frame.count * frame.components,

@@ -1,6 +1,8 @@
 // `sideways_u16`: the horizontal pass over u16 samples with i32 weights, one to four components a pixel, as `passed_sideways` and `written_sideways` of `sideways` say. The judges
 // of pixels, sizes, stored set and rows answer before anything is written, as the vertical pass's do for the exchanged frame; `pixels_u16` then fills the output, from the frame
 // as it lies.
+#![tactic(auto)]
+
 mod judge;
 
 ghost use Rattle.std.specs.Prelude.{◌≡◌, ◌/◌, length};
@@ -8,7 +10,7 @@ ghost use Rattle.windows.specs.Set.{layout_of, set_of, stored_of};
 ghost use Rattle.sideways.specs.Sideways.{passed_sideways, written_sideways};
 
 use excesses::stored_fits32;
-use judge::{pixels, rows_fit, sizes_fit};
+use judge::{rows_fit, sizes_fit};
 use pixels_u16::fill_rows;
 use refusal::Refusal;
 use vertical::Passed;
@@ -47,7 +49,7 @@ pub fn horiz_convolution_u16(
         return Passed::Refused(Refusal::BadSide);
     }
     if !stored_fits32(
-        pixels(frame),
+        frame.row / frame.components,
         window_size,
         precision,
         weights,

@@ -1,4 +1,6 @@
 // `signed_lines`: lines of a key and a number with its sign, laid into a lent list as `text` lays its own.
+#![tactic(auto)]
+
 ghost use Rattle.std.specs.Prelude.{◌≡◌, length};
 ghost use Rattle.text.specs.Text.{laid, reached};
 ghost use Rattle.signed_lines.specs.Lines.{number_text};

@@ -1,5 +1,7 @@
 // `store_sets`: a request made a set of the 32-bit store. `make` builds it in lists that are lent for that alone, and leaves weights and excesses at the beginning of the
 // two lists that the set is to stand in; refused, those two are as they were. A worker of `shared_store`.
+#![tactic(auto)]
+
 mod answers;
 mod steps;
 

@@ -16,7 +16,7 @@ use Rattle.signed_lines.specs.Lines.{number_text}
 use Rattle.story_text.specs.Keys.{key_total, key_half, key_shifted, key_clip, key_final}
 use Rattle.story_text.specs.Text.{camera_text, lines_text, clip_word, clip_text, end_text, window_text}
 use Rattle.story.specs.Answer.{text_of}
-use Rattle.story.specs.Story.{rows_of, camera_row, Named, weightOf, sampleOf, productOf, total_of, shiftedOf, storyRows}
+use Rattle.story.specs.Story.{rows_of, camera_row, Named, weightOf, sample_of, productOf, total_of, shiftedOf, storyRows}
 use Rattle.story.proofs.RowLaws.{cut_all, cut_five, plain_append, plain_signed, plain_field, plain_camera, plain_word}
 
 -- the five lines after the camera lines
@@ -33,10 +33,10 @@ module _ (s : Stored) (src : List ℕ) (row i j : ℕ) where
   unfolding window_text lines_text camera_text
   story_rows =
       let l = s.set.layout in
-      let line : ℕ → List ℕ = λ k. camera_row (start l i + k) (weightOf s src row i j k) (sampleOf s src row i j k) in
+      let line : ℕ → List ℕ = λ k. camera_row (start l i + k) (weightOf s src row i j k) (sample_of s src row i j k) in
       let value = value_at 65535 s (frame 0 src row) i j in
       let end = end_text (total_of s src row i j) (2 ^ (s.precision - 1)) (shiftedOf s src row i j) value in
-      cut_all line (size l i) end (λ k. plain_camera (start l i + k) (weightOf s src row i j k) (sampleOf s src row i j k))
+      cut_all line (size l i) end (λ k. plain_camera (start l i + k) (weightOf s src row i j k) (sample_of s src row i j k))
       ∙ ap (λ (rest : List (List ℕ)). tab 0 (size l i) line ++ rest) (end_rows (total_of s src row i j) (2 ^ (s.precision - 1)) (shiftedOf s src row i j) value)
 
   -- the camera lines named are those of the window and no others

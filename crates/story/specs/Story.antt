@@ -41,22 +41,22 @@ module _ (s : Stored) (src : List ℕ) (row i j : ℕ) where
   abbrev pub weightOf : ℕ → ℤ
   weightOf k = weight s.set (pos 0) i k
 
-  abbrev pub sampleOf : ℕ → ℕ
-  sampleOf k = sample s.set.layout (frame 0 src row) i j k
+  abbrev pub sample_of : ℕ → ℕ
+  sample_of k = sample s.set.layout (frame 0 src row) i j k
 
   abbrev pub productOf : ℕ → ℤ
-  productOf k = product (weightOf k) (sampleOf k)
+  productOf k = product (weightOf k) (sample_of k)
 
   -- the pass's total and its shifted value
   abbrev pub total_of : ℤ
-  total_of = total weightOf sampleOf (size s.set.layout i)
+  total_of = total weightOf sample_of (size s.set.layout i)
 
   abbrev pub shiftedOf : ℤ
-  shiftedOf = rounded s.precision weightOf sampleOf (size s.set.layout i)
+  shiftedOf = rounded s.precision weightOf sample_of (size s.set.layout i)
 
   -- the camera lines' lines, in line order
   abbrev pub cameraRows : List (List ℕ)
-  cameraRows = tab 0 (size s.set.layout i) (λ k. camera_row (start s.set.layout i + k) (weightOf k) (sampleOf k))
+  cameraRows = tab 0 (size s.set.layout i) (λ k. camera_row (start s.set.layout i + k) (weightOf k) (sample_of k))
 
   -- the lines of a story with so much for its total and its final number
   abbrev pub storyRows : ℤ → ℕ → List (List ℕ)

@@ -1,6 +1,8 @@
 // `story`: why one output sample of the u16 pass has its number. `story` judges sizes, stored set and frame as the pass does, then the place and the room, and lays
 // `story_text_value` over the beginning of the lent list. The text's length comes from the same run over a list of one byte, since what falls past a list's end is not written
 // and counted all the same.
+#![tactic(auto)]
+
 mod answer;
 mod place;
 

@@ -1,5 +1,7 @@
 // `story_ends`: the story of one window at one column, laid into a lent list from its beginning on. `put_story` writes a line for each camera line (`story_text`) and the
 // five lines after them, as `window_text` says; half, shift and clip are the u16 pass's, lent by `row_u16` and `clips`. Lent to `story`, which judges first.
+#![tactic(auto)]
+
 mod ends;
 
 ghost use Rattle.std.specs.Prelude.{◌≡◌, ◌≤◌, length};

@@ -1,6 +1,8 @@
 // `vertical`: what the vertical passes answer and write. The definitions that `vertical_u16` and `vertical_f32` are proved against, the judges of sizes, frame
 // and columns that all passes ask (`bad_size` is No. 1 of document 01, `bad_area` the No. 10 that they share), and the promise that a range of columns gives
 // those columns of the whole frame.
+#![tactic(auto)]
+
 mod answer;
 
 ghost use Rattle.std.specs.Prelude.{◌≡◌, not};

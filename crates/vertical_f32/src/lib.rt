@@ -1,5 +1,7 @@
 // `vertical_f32`: the vertical pass over f32 samples with f64 weights, as `passedF32` and `writtenF32` of `vertical` say. Counterpart of vertical_f32/native.rs.
 // Everything is judged before anything is written: sizes and shape by `vertical`, the weights in use, then each camera line in use, once.
+#![tactic(auto)]
+
 mod rows;
 
 ghost use Rattle.std.specs.Prelude.{◌≡◌, length};

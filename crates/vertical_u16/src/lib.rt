@@ -1,5 +1,7 @@
 // `vertical_u16`: the vertical pass over u16 samples with i32 weights, as `passed_u16` and `written_u16` of `vertical` say. Counterpart of vertical_u16/native.rs.
 // The judges of sizes, stored set and frame answer before anything is written; `rows` then fills the output window by window, each row by `row_u16::fill`.
+#![tactic(auto)]
+
 mod rows;
 
 ghost use Rattle.std.specs.Prelude.{◌≡◌, length};

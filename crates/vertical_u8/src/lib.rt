@@ -1,6 +1,8 @@
 // `vertical_u8`: the vertical pass over u8 samples with i16 weights, as `passed_u8` and `written_u8` say: the u16 pass's formula with 255 for the largest sample. Ours;
 // the given Rust has none. `judge` looks at every window's weights before anything is written, so that no sum of i32 can wrap; `rows` then fills the
 // output window by window, each row by the worker `row_u8` lends.
+#![tactic(auto)]
+
 mod index;
 mod judge;
 mod rows;

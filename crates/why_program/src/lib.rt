@@ -1,6 +1,8 @@
 // The program `why_pixel`: the story of one output sample, of a sheet and a frame in files. `sheet_files` brings the sheet, `frame` one column of the frame; the story is
 // that of a frame one column wide, which the promise on strips allows. `said` has what is not a story, `drawn` and `bars` the window for a terminal. No contract says what is
 // read or printed, since none could speak of the streams; every function is safe at every argument.
+#![tactic(auto)]
+
 mod bars;
 mod drawn;
 mod frame;

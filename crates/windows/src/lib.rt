@@ -1,5 +1,7 @@
 // `windows`: the two numberings of lines, a window of camera lines, the stores of integer weights, and the judge of whether sides, windows and precision fit.
 // Normalisers, passes and `excesses` ask it; `bad_sides_value` is No. 1 of document 01, `badSet` No. 10 as far as they share it.
+#![tactic(auto)]
+
 mod counts;
 mod precisions;
 

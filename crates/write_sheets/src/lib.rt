@@ -1,6 +1,8 @@
 // `write_sheets`: `write_sheet16` and `write_sheet32` judge a set (`excesses`) and the room, then lay its text (`sheet_text_value`, of `sheet`) over the beginning of the lent list.
 // The text's length comes from the same run over a list of one byte, since what falls past a list's end is not written and counted all the same. Both stores are one
 // function over two lists, of which a store has one.
+#![tactic(auto)]
+
 mod writer;
 
 ghost use Rattle.std.specs.Prelude.{◌≡◌, length};

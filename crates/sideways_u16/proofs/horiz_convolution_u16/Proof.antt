@@ -24,14 +24,14 @@ returns c =
     let s : Stored = stored_of (set_of (layout_of (f.row / f.components) a.window-size a.starts.now a.sizes.now) a.weights.now) a.precision a.excesses.now in
     bad_size_fact s a.src.now f.components f.rows f.row f.first f.count a.out.now (asked_bad (bad_pixels f.components f.row || bad_size (f.row / f.components) (windows s.set.layout) (f.rows * f.components)) c.before.sizes-fit.ensures c.if1.true)
 
-pixels-requires : tie.Need-pixels-requires
-pixels-requires c κs =
-    let b = c.before.before.before.before.before.before in
+div-stored-fits32 : tie.Need-nonzero-div-stored-fits32
+div-stored-fits32 c =
+    let b = c.before.before.before.before.before.before.before in
     let a = b.args in
     let f = a.frame in
     let s : Stored = stored_of (set_of (layout_of (f.row / f.components) a.window-size a.starts.now a.sizes.now) a.weights.now) a.precision a.excesses.now in
-    let good = asked_good (bad_pixels f.components f.row || bad_size (f.row / f.components) (windows s.set.layout) (f.rows * f.components)) c.before.sizes-fit.ensures c.if1.false in
-    (few_rows s a.src.now f.components f.rows f.row f.first f.count a.out.now good).0
+    let good = asked_good (bad_pixels f.components f.row || bad_size (f.row / f.components) (windows s.set.layout) (f.rows * f.components)) c.before.before.sizes-fit.ensures c.before.if1.false in
+    omega (arith, few_rows s a.src.now f.components f.rows f.row f.first f.count a.out.now good)
 
 returns-2 : tie.Need-returns-2
 returns-2 c =
@@ -40,7 +40,7 @@ returns-2 c =
     let f = a.frame in
     let s : Stored = stored_of (set_of (layout_of (f.row / f.components) a.window-size a.starts.now a.sizes.now) a.weights.now) a.precision a.excesses.now in
     let good = asked_good (bad_pixels f.components f.row || bad_size (f.row / f.components) (windows s.set.layout) (f.rows * f.components)) c.before.before.before.before.sizes-fit.ensures c.before.before.before.if1.false in
-    bad_stored s a.src.now f.components f.rows f.row f.first f.count a.out.now good (stored_bad store32 s (f.rows * f.components) (size_good s a.src.now f.components f.rows f.row f.first f.count a.out.now good) (rw c.before.before.pixels.ensures at c.before.stored-fits32.ensures) c.if2.true)
+    bad_stored s a.src.now f.components f.rows f.row f.first f.count a.out.now good (stored_bad store32 s (f.rows * f.components) (size_good s a.src.now f.components f.rows f.row f.first f.count a.out.now good) c.before.stored-fits32.ensures c.if2.true)
 
 rows-fit-requires : tie.Need-rows-fit-requires
 rows-fit-requires c κs =
@@ -58,7 +58,7 @@ returns-3 c =
     let f = a.frame in
     let s : Stored = stored_of (set_of (layout_of (f.row / f.components) a.window-size a.starts.now a.sizes.now) a.weights.now) a.precision a.excesses.now in
     let good = asked_good (bad_pixels f.components f.row || bad_size (f.row / f.components) (windows s.set.layout) (f.rows * f.components)) c.before.before.before.before.before.before.sizes-fit.ensures c.before.before.before.before.before.if1.false in
-    bad_area_fact s a.src.now f.components f.rows f.row f.first f.count a.out.now good (stored_good store32 s (f.rows * f.components) (size_good s a.src.now f.components f.rows f.row f.first f.count a.out.now good) (rw c.before.before.before.before.pixels.ensures at c.before.before.before.stored-fits32.ensures) c.before.before.if2.false)
+    bad_area_fact s a.src.now f.components f.rows f.row f.first f.count a.out.now good (stored_good store32 s (f.rows * f.components) (size_good s a.src.now f.components f.rows f.row f.first f.count a.out.now good) c.before.before.before.stored-fits32.ensures c.before.before.if2.false)
     (asked_bad (bad_area (f.row / f.components) (windows s.set.layout) (length a.src.now) (f.rows * f.components) (f.first * f.components) (f.count * f.components) (length a.out.now)) c.before.rows_fit.ensures c.if3.true)
 
 fill-rows-requires : tie.Need-fill-rows-requires
@@ -71,7 +71,7 @@ fill-rows-requires c κs =
     let size = size_good s a.src.now f.components f.rows f.row f.first f.count a.out.now good in
     let t : Tests store32 s (length a.src.now) (f.rows * f.components) (f.first * f.components) (f.count * f.components) (length a.out.now) = record {
       size = size;
-      stored = stored_good store32 s (f.rows * f.components) size (rw i.before.before.before.before.pixels.ensures at i.before.before.before.stored-fits32.ensures) i.before.before.if2.false;
+      stored = stored_good store32 s (f.rows * f.components) size i.before.before.before.stored-fits32.ensures i.before.before.if2.false;
       area = asked_good (bad_area (f.row / f.components) (windows s.set.layout) (length a.src.now) (f.rows * f.components) (f.first * f.components) (f.count * f.components) (length a.out.now)) i.before.rows_fit.ensures i.if3.false;
     } in
     let p = stored_precise s store32 t.stored in
@@ -88,7 +88,7 @@ returns-4 c =
     let size = size_good s a.src.now f.components f.rows f.row f.first f.count a.out.now good in
     let t : Tests store32 s (length a.src.now) (f.rows * f.components) (f.first * f.components) (f.count * f.components) (length a.out.now) = record {
       size = size;
-      stored = stored_good store32 s (f.rows * f.components) size (rw i.before.before.before.before.pixels.ensures at i.before.before.before.stored-fits32.ensures) i.before.before.if2.false;
+      stored = stored_good store32 s (f.rows * f.components) size i.before.before.before.stored-fits32.ensures i.before.before.if2.false;
       area = asked_good (bad_area (f.row / f.components) (windows s.set.layout) (length a.src.now) (f.rows * f.components) (f.first * f.components) (f.count * f.components) (length a.out.now)) i.before.rows_fit.ensures i.if3.false;
     } in
     let r = c.before.before.fill-rows in
@@ -97,5 +97,5 @@ returns-4 c =
 pub horiz-convolution-u16-spec : {M : Type 1} → statement M
 horiz-convolution-u16-spec =
     tie.close
-    (tie.spec (λ c κs. search rules) returns pixels-requires (λ c κs. search rules) returns-2 rows-fit-requires returns-3 (λ c. search rules) (λ c. search rules)
+    (tie.spec (λ c κs. search rules) returns div-stored-fits32 (λ c κs. search rules) returns-2 rows-fit-requires returns-3 (λ c. search rules) (λ c. search rules)
     (λ c. search rules) (λ c. search rules) fill-rows-requires (λ c. search rules) returns-4)

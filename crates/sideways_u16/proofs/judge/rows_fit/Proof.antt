@@ -41,8 +41,5 @@ mul-t10 c =
     let l : a.count ≤ 32768 = omega (arith, b.requires.2, c.before.before.before.before.if2.false) in
     omega (arith, times_small a.count a.components l b.requires.1)
 
-returns-3 : tie.Need-returns-3
-returns-3 c = rw c.before.before.before.before.pixels.ensures at c.frame-fits.ensures
-
 pub rows-fit-spec : {M : Type 1} → statement M
-rows-fit-spec = tie.close (tie.spec returns returns-2 (λ c κs. search rules) mul-t8 mul-t9 mul-t10 (λ c κs. search rules) returns-3)
+rows-fit-spec = tie.close (tie.spec returns returns-2 (λ c. search rules) mul-t8 mul-t9 mul-t10 (λ c κs. search rules) (λ c. search rules))

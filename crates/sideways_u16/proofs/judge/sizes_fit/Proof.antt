@@ -23,10 +23,10 @@ returns-2 c =
     let p = pixels-fit a.components a.row (asked_good (bad_pixels a.components a.row) c.before.before.before.pixels-fit.ensures c.before.before.if1.false) in
     sym (ap not (many_rows a.components a.row a.rows (a.row / a.components) s.windows p.few.least c.if2.true))
 
-pixels-requires : tie.Need-pixels-requires
-pixels-requires c κs =
-    let a = c.before.before.before.before.args.frame in
-    (pixels-fit a.components a.row (asked_good (bad_pixels a.components a.row) c.before.before.before.pixels-fit.ensures c.before.before.if1.false)).few.least
+div-t6 : tie.Need-nonzero-div-t6
+div-t6 c =
+    let a = c.before.before.before.before.before.args.frame in
+    omega (arith, (pixels-fit a.components a.row (asked_good (bad_pixels a.components a.row) c.before.before.before.before.pixels-fit.ensures c.before.before.before.if1.false)).few)
 
 mul-t7 : tie.Need-overflow-mul-t7
 mul-t7 c =
@@ -37,7 +37,7 @@ mul-t7 c =
 returns-3 : tie.Need-returns-3
 returns-3 c =
     let a = c.before.before.before.before.before.before.before.args.frame in
-    rw (asked_good (bad_pixels a.components a.row) c.before.before.before.before.before.before.pixels-fit.ensures c.before.before.before.before.before.if1.false) (rw c.before.before.pixels.ensures at c.size_fits.ensures)
+    rw (asked_good (bad_pixels a.components a.row) c.before.before.before.before.before.before.pixels-fit.ensures c.before.before.before.before.before.if1.false) c.size_fits.ensures
 
 pub sizes-fit-spec : {M : Type 1} → statement M
-sizes-fit-spec = tie.close (tie.spec (λ c κs. search rules) returns returns-2 pixels-requires mul-t7 (λ c κs. search rules) returns-3)
+sizes-fit-spec = tie.close (tie.spec (λ c κs. search rules) returns returns-2 div-t6 mul-t7 (λ c κs. search rules) returns-3)

@@ -1,0 +1,96 @@
+// The words of the line, the pass, and what it wrote.
+use answer_lines::{Said, emit};
+use request_fields::{fields, i32s, i64s, u16s, u32s};
+use sideways_u16::PixelFrame;
+
+// The line's answer.
+pub(crate) fn of_line(
+    line: &[u8],
+    n: usize,
+    out: &mut [u8],
+    weights: &mut [i32],
+    starts: &mut [u32],
+    sizes: &mut [u32],
+    excesses: &mut [i64],
+    samples: &mut [u16],
+    lent: &mut [u16],
+) -> Said {
+    let a: usize = 0;
+    let slots = i32s::read(line, 8, weights);
+    let i = u32s::read(line, 9, starts);
+    let j = u32s::read(line, 10, sizes);
+    let k = i64s::read(line, 11, excesses);
+    framed(
+        line,
+        &weights[a..slots],
+        &starts[a..i],
+        &sizes[a..j],
+        &excesses[a..k],
+        samples,
+        lent,
+        n,
+        out,
+    )
+}
+
+// SAMPLES and NOUT, the last two words.
+fn framed(
+    line: &[u8],
+    weights: &[i32],
+    starts: &[u32],
+    sizes: &[u32],
+    excesses: &[i64],
+    samples: &mut [u16],
+    lent: &mut [u16],
+    n: usize,
+    out: &mut [u8],
+) -> Said {
+    let a: usize = 0;
+    let l = u16s::read(line, 12, samples);
+    let m = u16s::lend(line, 13, lent);
+    pass(
+        line,
+        weights,
+        starts,
+        sizes,
+        excesses,
+        &samples[a..l],
+        &mut lent[a..m],
+        n,
+        out,
+    )
+}
+
+// The pass itself; the number and the output.
+fn pass(
+    line: &[u8],
+    weights: &[i32],
+    starts: &[u32],
+    sizes: &[u32],
+    excesses: &[i64],
+    samples: &[u16],
+    lent: &mut [u16],
+    n: usize,
+    out: &mut [u8],
+) -> Said {
+    let answer = sideways_u16::horiz_convolution_u16(
+        samples,
+        PixelFrame {
+            components: fields::whole(line, 1),
+            rows: fields::whole(line, 2),
+            row: fields::whole(line, 3),
+            first: fields::whole(line, 4),
+            count: fields::whole(line, 5),
+        },
+        weights,
+        starts,
+        sizes,
+        excesses,
+        fields::whole(line, 6),
+        fields::whole(line, 7),
+        lent,
+    );
+    let p = emit::whole(answer.number(), n, out);
+    let q = emit::byte(b' ', p, out);
+    answer_lines::told(answer_lines::u16s::show(lent, q, out))
+}
