@@ -11,7 +11,7 @@ use lib.IntN.{ℤ, pos, neg_ℤ, ◌+ℤ◌, ◌*ℤ◌, pos-*ℤ-pos, pos-+ℤ-
 use lib.Signed.{lt_z}
 use lib.Dec.{T, ltb}
 use borrow.Author.Tests.{ltb-true, ltb-false, lt-ltb, le-ltb}
-use lib.Ieee.{Float, nan, inf, fin, binary64, up, down, round, sum, add, sub, lt, fits}
+use lib.Ieee.{Float, nan, inf, fin, binary64, up, down, round, add, sub, lt, fits}
 use lib.Ieee.Fits.{down_pos}
 use lib.Ieee.Exact.{HasValue}
 use lib.Ieee.Back.{round_whole}

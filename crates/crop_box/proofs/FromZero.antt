@@ -2,13 +2,13 @@
 -- of a box. Cited by EndRest, EndLaws, the proof of `crop` and the builder's CropLaws. Assumes nothing.
 use mathlib.Core.Path.{◌≡◌, refl, sym, ap, ◌∙◌, subst}
 use mathlib.Core.Bool.{Bool, true, false, ◌&&◌, ◌||◌, false≢true}
-use Prim.Native.Nat.{ℕ, zero, ◌+◌, ◌*◌, ◌≤◌}
+use Prim.Native.Nat.{ℕ, ◌+◌, ◌*◌, ◌≤◌}
 use native.Mathlib.Nat.{le_trans, le_of_eq, zero-mul, mul-one, add-zero}
 use native.Mathlib.Omega.{arith}
 use lib.IntN.{ℤ}
 use lib.Dec.{T, ltb, leb→le}
 use borrow.Author.Tests.{ltb-false, not-false}
-use lib.Ieee.{Float, nan, inf, fin, up, sum, lt, le, of_bits}
+use lib.Ieee.{Float, nan, inf, fin, up, lt, le, of_bits}
 use lib.Ieee.Exact.{HasValue}
 use lib.Ieee.Scale.{finite}
 use lib.Ieee.Positive.{num, den}

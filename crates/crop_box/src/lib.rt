@@ -8,7 +8,7 @@ pub use checks::crop;
 use refusal::Refusal;
 
 // In camera lines and columns, from the upper left corner.
-#[derive(Drop)]
+#[derive(Clone, Copy)]
 pub struct CropBox {
     pub left: f64,
     pub top: f64,
@@ -16,7 +16,7 @@ pub struct CropBox {
     pub height: f64,
 }
 
-#[derive(Drop)]
+#[derive(Clone, Copy)]
 pub enum Cropped {
     Inside(CropBox),
     Refused(Refusal),

@@ -19,15 +19,15 @@ fit_numbered false false x = refl
 
 -- fitting: here No. 1 is only for sides above 8,192
 module _ (sw sh dw dh : ℕ) (at : Centring) where
-  abbrev pub fitRows : List (Bool × ℕ)
-  fitRows =
+  abbrev pub fit_rows : List (Bool × ℕ)
+  fit_rows =
       (large_sides_value sw sh dw dh, 1)
       ∷ (bad_centring at, 2)
       ∷ []
 
-  fit_is : number_of (fit_of sw sh dw dh at) ≡ given fitRows
+  fit_is : number_of (fit_of sw sh dw dh at) ≡ given fit_rows
   unfolding fit_of
   fit_is = fit_numbered (large_sides_value sw sh dw dh) (bad_centring at) (fitted_box sw sh dw dh (across_of at) (down_of at))
 
-  pub fit_exactly : (n : ℕ) → Exactly (number_of (fit_of sw sh dw dh at) ≡ n) (Due n fitRows)
-  fit_exactly n = rw fit_is (exactly_due n fitRows refl)
+  pub fit_exactly : (n : ℕ) → Exactly (number_of (fit_of sw sh dw dh at) ≡ n) (Due n fit_rows)
+  fit_exactly n = rw fit_is (exactly_due n fit_rows refl)

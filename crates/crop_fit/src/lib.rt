@@ -13,13 +13,13 @@ pub use fitting::fit_src_into_dst_size;
 use refusal::Refusal;
 
 // Where the box lies in what is left over: from 0, at the left and top, to 1, at the right and bottom.
-#[derive(Drop)]
+#[derive(Clone, Copy)]
 pub enum Centring {
     Absent,
     At(f64, f64),
 }
 
-#[derive(Drop)]
+#[derive(Clone, Copy)]
 pub enum Fitted {
     Fit(CropBox),
     Refused(Refusal),

@@ -11,7 +11,7 @@ ghost use Rattle.filters.specs.Filters.{support_of, box_of, bilinear_of, catmull
 pub use names::{pick, retired};
 
 // A name: what a sheet says after `kind=`, and what a request asks for.
-#[derive(Drop)]
+#[derive(Clone, Copy)]
 pub enum FilterType {
     Box,
     Bilinear,
@@ -20,7 +20,7 @@ pub enum FilterType {
 }
 
 // What a set can be built with.
-#[derive(Drop)]
+#[derive(Clone, Copy)]
 pub enum Filter {
     Box,
     Bilinear,
@@ -28,7 +28,7 @@ pub enum Filter {
 }
 
 // What a name picks: a filter, or none, since it is retired.
-#[derive(Drop)]
+#[derive(Clone, Copy)]
 pub enum Picked {
     Is(Filter),
     Retired,

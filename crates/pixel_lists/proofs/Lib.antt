@@ -1,3 +1,4 @@
 pub mod PixelLaws
+pub mod Tests
 pub mod Rows
 pub mod Sure

@@ -2,7 +2,7 @@
 -- other. Over any width, so for `alpha_u16` too. Cited by docs/CONTRACTS.md. Assumes nothing.
 use mathlib.Core.Path.{◌≡◌, refl}
 use mathlib.Core.Bool.{Bool, true, false, cond}
-use mathlib.Core.List.{List, [], ◌∷◌}
+use mathlib.Core.List.{List}
 use Prim.Native.Nat.{ℕ}
 use lib.ListN.{length}
 use Rattle.lists.specs.Ladder.{Exactly, given, Due}
@@ -10,18 +10,15 @@ use Rattle.lists.proofs.LadderLaws.{exactly_due}
 use Rattle.refusal.specs.declared.Refusal.TheVariants.{DoesNotFit}
 use Rattle.pixel_lists.specs.declared.Applied.TheVariants.{Done, Refused}
 use Rattle.pixel_lists.specs.Lists.{bad_lists_value, applied_to, number_of}
+use Rattle.pixel_lists.proofs.Tests.{rows}
 
 numbered : (t : Bool) → number_of (cond t (Refused DoesNotFit) Done) ≡ cond t 10 0
 numbered true = refl
 numbered false = refl
 
 module _ (src dst : List ℕ) where
-  -- the one test, with its number
-  abbrev pub rows : List (Bool × ℕ)
-  rows = (bad_lists_value (length src) (length dst), 10) ∷ []
-
-  is : number_of (applied_to src dst) ≡ given rows
+  is : number_of (applied_to src dst) ≡ given (rows src dst)
   is = numbered (bad_lists_value (length src) (length dst))
 
-  pub applied_exactly : (n : ℕ) → Exactly (number_of (applied_to src dst) ≡ n) (Due n rows)
-  applied_exactly n = rw is (exactly_due n rows refl)
+  pub applied_exactly : (n : ℕ) → Exactly (number_of (applied_to src dst) ≡ n) (Due n (rows src dst))
+  applied_exactly n = rw is (exactly_due n (rows src dst) refl)

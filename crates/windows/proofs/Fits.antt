@@ -14,15 +14,15 @@ use Rattle.lists.proofs.BoolLaws.{or_left, or_right}
 use Rattle.lists.proofs.TabLaws.{row_end}
 use Rattle.lists.proofs.RangeLaws.{InRange, not_outside, first_side, second_side}
 use Rattle.windows.specs.Set.{Layout, layout_of, windows, start, size}
-use Rattle.windows.specs.Fit.{bad_counts, badAt, badSet, Fits, InSlots}
+use Rattle.windows.specs.Fit.{bad_counts, bad_at, bad_set, Fits, InSlots}
 
 -- the counts agree
 module _ (window_size_value slots starts sizes : ℕ) (h : bad_counts window_size_value slots starts sizes ≡ false) where
-  abbrev size-or-pairs : Bool
-  size-or-pairs = outside 1 32769 window_size_value || not (eqb starts sizes)
+  abbrev size_or_pairs : Bool
+  size_or_pairs = outside 1 32769 window_size_value || not (eqb starts sizes)
 
-  first : size-or-pairs ≡ false
-  first = or_left size-or-pairs (not (eqb slots (starts * window_size_value))) h
+  first : size_or_pairs ≡ false
+  first = or_left size_or_pairs (not (eqb slots (starts * window_size_value))) h
 
   wide : InRange 1 32769 window_size_value
   wide = not_outside 1 32769 window_size_value (or_left (outside 1 32769 window_size_value) (not (eqb starts sizes)) first)
@@ -31,17 +31,17 @@ module _ (window_size_value slots starts sizes : ℕ) (h : bad_counts window_siz
   pairs = eqb-true starts sizes (not-false (eqb starts sizes) (or_right (outside 1 32769 window_size_value) (not (eqb starts sizes)) first))
 
   full : slots ≡ starts * window_size_value
-  full = eqb-true slots (starts * window_size_value) (not-false (eqb slots (starts * window_size_value)) (or_right size-or-pairs (not (eqb slots (starts * window_size_value))) h))
+  full = eqb-true slots (starts * window_size_value) (not-false (eqb slots (starts * window_size_value)) (or_right size_or_pairs (not (eqb slots (starts * window_size_value))) h))
 
 module _ (l : Layout) (slots : ℕ) where
   abbrev counts : Bool
   counts = bad_counts l.window_size_value slots (windows l) (length l.sizes)
 
   -- neither No. 1 nor No. 10 is due
-  pub fits : bad_sides_value l.lines (windows l) ≡ false → badSet l slots ≡ false → Fits l slots
+  pub fits : bad_sides_value l.lines (windows l) ≡ false → bad_set l slots ≡ false → Fits l slots
   fits sides h =
-      let lists = or_left counts (any (windows l) (badAt l)) h in
-      let good = any_none (badAt l) (windows l) (or_right counts (any (windows l) (badAt l)) h) in
+      let lists = or_left counts (any (windows l) (bad_at l)) h in
+      let good = any_none (bad_at l) (windows l) (or_right counts (any (windows l) (bad_at l)) h) in
       let camera = first_side l.lines (windows l) sides in
       let display = second_side l.lines (windows l) sides in
       let slot = wide l.window_size_value slots (windows l) (length l.sizes) lists in

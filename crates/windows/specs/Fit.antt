@@ -18,12 +18,12 @@ bad_window lines window_size_value start size = outside 1 window_size_value size
 
 module _ (l : Layout) where
   -- the same of the window of display line i
-  abbrev pub badAt : ℕ → Bool
-  badAt i = bad_window l.lines l.window_size_value (start l i) (size l i)
+  abbrev pub bad_at : ℕ → Bool
+  bad_at i = bad_window l.lines l.window_size_value (start l i) (size l i)
 
   -- No. 10 of a layout and so many slots: the counts, or some window
-  abbrev pub badSet : ℕ → Bool
-  badSet slots = bad_counts l.window_size_value slots (windows l) (length l.sizes) || any (windows l) badAt
+  abbrev pub bad_set : ℕ → Bool
+  bad_set slots = bad_counts l.window_size_value slots (windows l) (length l.sizes) || any (windows l) bad_at
 
 -- two numbers differ: one is below the other
 abbrev pub differ : ℤ → ℤ → Bool
@@ -31,20 +31,20 @@ differ x y = lt_z x y || lt_z y x
 
 module _ (s : Stored) where
   -- No. 10: the excess that the set has for window i is not the window's
-  abbrev pub badExcess : ℕ → Bool
-  badExcess i = differ (excess_of s i) (get_or s.excesses i (pos 0))
+  abbrev pub bad_excess : ℕ → Bool
+  bad_excess i = differ (excess_of s i) (get_or s.excesses i (pos 0))
 
   -- No. 10: not one excess for each window, or a wrong one
-  abbrev pub badExcesses : Bool
-  badExcesses = not (eqb (length s.excesses) (windows s.set.layout)) || any (windows s.set.layout) badExcess
+  abbrev pub bad_excesses : Bool
+  bad_excesses = not (eqb (length s.excesses) (windows s.set.layout)) || any (windows s.set.layout) bad_excess
 
   -- No. 10 of a stored set: its layout and slots, its precision, or its excesses
-  abbrev pub badStored : Store → Bool
-  badStored store = (badSet s.set.layout (length s.set.weights) || bad_precision store s.precision) || badExcesses
+  abbrev pub bad_stored : Store → Bool
+  bad_stored store = (bad_set s.set.layout (length s.set.weights) || bad_precision store s.precision) || bad_excesses
 
   -- No. 1 or No. 10 of it
   abbrev pub unfit : Store → Bool
-  unfit store = bad_sides_value s.set.layout.lines (windows s.set.layout) || badStored store
+  unfit store = bad_sides_value s.set.layout.lines (windows s.set.layout) || bad_stored store
 
 -- what No. 1 and No. 10 leave true of a layout and so many slots where neither is due, in plain numbers. A function that does not know the count of camera lines
 -- asks it of 8,192, the most there are

@@ -2,7 +2,7 @@
 ghost use Rattle.std.specs.Prelude.{◌≡◌, ◌*◌, eqb, length};
 ghost use Rattle.lists.specs.Tab.{any};
 ghost use Rattle.windows.specs.Set.{layout_of};
-ghost use Rattle.windows.specs.Fit.{bad_counts, bad_window, badAt};
+ghost use Rattle.windows.specs.Fit.{bad_counts, bad_window, bad_at};
 
 use crate::{CameraLine, Window};
 
@@ -28,7 +28,7 @@ pub(crate) fn counts_misfit(window_size: u32, slots: usize, starts: usize, sizes
 // Whether some window of the lists is bad.
 pub(crate) fn some_misfits(lines: u32, window_size: u32, starts: &[u32], sizes: &[u32]) -> bool
     requires { length starts.now ≡ length sizes.now }
-    ensures answer { result ≡ any (length starts.now) (badAt (layout_of lines window_size starts.now sizes.now)) }
+    ensures answer { result ≡ any (length starts.now) (bad_at (layout_of lines window_size starts.now sizes.now)) }
 {
     let mut bad = false;
     let mut i: usize = 0;

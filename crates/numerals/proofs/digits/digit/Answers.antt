@@ -1,0 +1,25 @@
+-- The tests are those of the definition, in its order. Assumes nothing.
+use borrow.Author.Rules.{rules}
+use borrow.Author.Tests.{lt-ltb, le-ltb, le-leb, lt-leb}
+use Rattle.numerals.specs.Digits.{digit_of}
+use Rattle.numerals.proofs.digits.digit.Goals as goal
+
+pub returns-then-b-lt48 : goal.returns-then-b-lt48
+unfolding digit_of
+returns-then-b-lt48 c = record { answer = rw (lt-ltb _ _ c.if-b-lt48.true) }
+
+pub returns-then-b-le57 : goal.returns-then-b-le57
+unfolding digit_of
+returns-then-b-le57 c = record { answer = rw (le-ltb _ _ c.if-b-lt48.false, le-leb _ _ c.if-b-le57.true) }
+
+pub returns-then-b-lt97 : goal.returns-then-b-lt97
+unfolding digit_of
+returns-then-b-lt97 c = record { answer = rw (le-ltb _ _ c.if-b-lt48.false, lt-leb _ _ c.if-b-le57.false, lt-ltb _ _ c.if-b-lt97.true) }
+
+pub returns-then-b-le102 : goal.returns-then-b-le102
+unfolding digit_of
+returns-then-b-le102 c = record { answer = rw (le-ltb _ _ c.if-b-lt48.false, lt-leb _ _ c.if-b-le57.false, le-ltb _ _ c.if-b-lt97.false, le-leb _ _ c.if-b-le102.true) }
+
+pub returns : goal.returns
+unfolding digit_of
+returns c = record { answer = rw (le-ltb _ _ c.if-b-lt48.false, lt-leb _ _ c.if-b-le57.false, le-ltb _ _ c.if-b-lt97.false, lt-leb _ _ c.if-b-le102.false) }
