@@ -13,7 +13,7 @@ use plans::{Planned, Request, planned_refusal, prepare};
 use refusal::Refusal;
 
 // Done with the window size, No. 8 with the first blank display line, or another refusal.
-#[derive(Drop)]
+#[derive(Clone, Copy)]
 pub enum Built {
     Done(u32),
     Blank(windows::DisplayLine),

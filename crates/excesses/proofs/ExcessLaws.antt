@@ -11,8 +11,8 @@ use lib.ListN.{length, get_or}
 use Rattle.lists.specs.Tab.{any}
 use Rattle.lists.proofs.TabLaws.{row_end}
 use Rattle.windows.specs.Set.{excess}
-use Rattle.windows.specs.Fit.{InSlots, differ}
-use Rattle.excesses.specs.Slots.{slot_from, excess_in, differs_in}
+use Rattle.windows.specs.Fit.{InSlots}
+use Rattle.excesses.specs.Slots.{slot_from}
 
 -- window i, whose slots begin at a
 module _ (window slots : ℕ) (sizes : List ℕ) (r : InSlots window sizes slots) (a i : ℕ) (e : a ≡ i * window) (l : i < length sizes) where

@@ -13,7 +13,7 @@ use Rattle.lists.proofs.BoolLaws.{never, or_left, or_right}
 use Rattle.windows.specs.declared.Store.{Store}
 use Rattle.windows.specs.Set.{Stored, windows, excess_of}
 use Rattle.windows.specs.Store.{bad_precision}
-use Rattle.windows.specs.Fit.{differ, badSet, badExcess, badExcesses, badStored}
+use Rattle.windows.specs.Fit.{differ, bad_set, bad_excess, bad_excesses, bad_stored}
 
 -- neither of two numbers is below the other: they are equal
 pub alike : (x y : ℤ) → differ x y ≡ false → x ≡ y
@@ -33,18 +33,18 @@ module _ (s : Stored) where
   abbrev full : Bool
   full = eqb (length s.excesses) (windows s.set.layout)
 
-  pub right_count : badExcesses s ≡ false → length s.excesses ≡ windows s.set.layout
-  right_count h = eqb-true (length s.excesses) (windows s.set.layout) (not-false full (or_left (not full) (any (windows s.set.layout) (badExcess s)) h))
+  pub right_count : bad_excesses s ≡ false → length s.excesses ≡ windows s.set.layout
+  right_count h = eqb-true (length s.excesses) (windows s.set.layout) (not-false full (or_left (not full) (any (windows s.set.layout) (bad_excess s)) h))
 
-  pub right_excess : badExcesses s ≡ false → (i : ℕ) → i < windows s.set.layout → excess_of s i ≡ get_or s.excesses i (pos 0)
+  pub right_excess : bad_excesses s ≡ false → (i : ℕ) → i < windows s.set.layout → excess_of s i ≡ get_or s.excesses i (pos 0)
   right_excess h i l =
-      alike (excess_of s i) (get_or s.excesses i (pos 0)) (any_none (badExcess s) (windows s.set.layout) (or_right (not full) (any (windows s.set.layout) (badExcess s)) h) i l)
+      alike (excess_of s i) (get_or s.excesses i (pos 0)) (any_none (bad_excess s) (windows s.set.layout) (or_right (not full) (any (windows s.set.layout) (bad_excess s)) h) i l)
 
-  pub right_excesses : length s.excesses ≡ windows s.set.layout → ((i : ℕ) → i < windows s.set.layout → excess_of s i ≡ get_or s.excesses i (pos 0)) → badExcesses s ≡ false
+  pub right_excesses : length s.excesses ≡ windows s.set.layout → ((i : ℕ) → i < windows s.set.layout → excess_of s i ≡ get_or s.excesses i (pos 0)) → bad_excesses s ≡ false
   right_excesses count each =
       rw (eq-eqb (length s.excesses) (windows s.set.layout) count)
-      (none_any (badExcess s) (windows s.set.layout) (λ i l. not_differ (excess_of s i) (get_or s.excesses i (pos 0)) (each i l)))
+      (none_any (bad_excess s) (windows s.set.layout) (λ i l. not_differ (excess_of s i) (get_or s.excesses i (pos 0)) (each i l)))
 
   -- the excesses of a set that was judged
-  pub judged_excesses : (store : Store) → badStored s store ≡ false → badExcesses s ≡ false
-  judged_excesses store h = or_right (badSet s.set.layout (length s.set.weights) || bad_precision store s.precision) (badExcesses s) h
+  pub judged_excesses : (store : Store) → bad_stored s store ≡ false → bad_excesses s ≡ false
+  judged_excesses store h = or_right (bad_set s.set.layout (length s.set.weights) || bad_precision store s.precision) (bad_excesses s) h

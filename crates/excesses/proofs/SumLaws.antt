@@ -18,7 +18,7 @@ use Rattle.integers.proofs.Parts.{neg_parts, size_parts, add_size, mag_size}
 use Rattle.windows.specs.Set.{lent}
 
 pub back : {z : ℤ} → mag z < 2 ^ 63 → to_z w64 (of_z w64 z) ≡ z
-back h = to_z-of_z (record { sfits = h })
+back h = to_z-of_z {w = w64} (record { sfits = h })
 
 -- a weight of a narrower type, widened
 pub wide_back : (w : Width) (x : ℤ) → SFits w x → SFits w64 x → to_z w64 (of_z w64 (to_z w (of_z w x))) ≡ x

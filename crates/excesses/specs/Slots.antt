@@ -4,7 +4,7 @@ use Rattle.lists.specs.Ranges.{bad_sides_value}
 use Rattle.windows.specs.declared.Store.{Store}
 use Rattle.windows.specs.Set.{Layout, windows, excess}
 use Rattle.windows.specs.Store.{bad_precision}
-use Rattle.windows.specs.Fit.{badSet, differ}
+use Rattle.windows.specs.Fit.{bad_set, differ}
 
 -- the weights from slot a on
 abbrev pub slot_from : List ℤ → ℕ → ℕ → ℤ
@@ -20,4 +20,4 @@ differs_in p window ws sizes excesses i = differ (excess_in p window ws sizes i)
 
 -- No. 1 or No. 10 before a weight is read: sides, layout and slots, precision
 abbrev pub bad_shape : Store → Layout → ℕ → ℕ → Bool
-bad_shape store l slots precision = (bad_sides_value l.lines (windows l) || badSet l slots) || bad_precision store precision
+bad_shape store l slots precision = (bad_sides_value l.lines (windows l) || bad_set l slots) || bad_precision store precision

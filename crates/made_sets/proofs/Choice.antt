@@ -16,21 +16,21 @@ use Rattle.plan_windows.proofs.LineLaws.{or_zero_done}
 use Rattle.coefficients.specs.declared.Built.{Built}
 use Rattle.coefficients.specs.declared.Built.TheVariants.{Done, Blank, Refused}
 use Rattle.coefficients.specs.Request.{too_few_slots, judged, built, built_of}
-use Rattle.normalizer.specs.Answer.{normalizedOf}
+use Rattle.normalizer.specs.Answer.{normalized_of}
 use Rattle.made_sets.specs.Made.{planned_set, Made, none, after_normal, refused_by, made_of}
 use Rattle.made_sets.proofs.Planned.{planned, plan}
 
 module _ (q : Request) (n : ℕ) where
-  abbrev byPlan : Plan → Made
-  byPlan p = or_zero p (none (Blank (record { 0 = first_blank p }))) (after_normal (planned_set p) (normalizedOf store32 (planned_set p) n 8192))
+  abbrev by_plan : Plan → Made
+  by_plan p = or_zero p (none (Blank (record { 0 = first_blank p }))) (after_normal (planned_set p) (normalized_of store32 (planned_set p) n 8192))
 
-  refused_by_fact : (x : Planned) (y : Built) → judged x n 8192 8192 Refused built ≡ y → ((w : ℕ) → y ≡ Done w → ⊥) → judged x n 8192 8192 refused_by byPlan ≡ none y
+  refused_by_fact : (x : Planned) (y : Built) → judged x n 8192 8192 Refused built ≡ y → ((w : ℕ) → y ≡ Done w → ⊥) → judged x n 8192 8192 refused_by by_plan ≡ none y
   unfolding judged or_zero
   refused_by_fact (PlanRefused refusal) y e other = ap none e
   refused_by_fact (Ready p) y e other = go (too_few_slots p n 8192 8192) (ltb (first_blank p) p.output) e
     where
       go : (t u : Bool) → cond t (Refused TooFewSlots) (cond u (Blank (record { 0 = first_blank p })) (Done p.window)) ≡ y
-          → cond t (refused_by TooFewSlots) (cond u (none (Blank (record { 0 = first_blank p }))) (after_normal (planned_set p) (normalizedOf store32 (planned_set p) n 8192))) ≡ none y
+          → cond t (refused_by TooFewSlots) (cond u (none (Blank (record { 0 = first_blank p }))) (after_normal (planned_set p) (normalized_of store32 (planned_set p) n 8192))) ≡ none y
       go true u h = ap none h
       go false true h = ap none h
       go false false h = absurd (other p.window (sym h))
@@ -41,8 +41,8 @@ module _ (q : Request) (n : ℕ) where
   not_built y e other = refused_by_fact (plan_of q) y e other
 
   -- one that was not
-  pub made_done : (w : ℕ) (done : built_of q n 8192 8192 ≡ Done w) → made_of q n ≡ after_normal (planned_set (plan q n w done)) (normalizedOf store32 (planned_set (plan q n w done)) n 8192)
+  pub made_done : (w : ℕ) (done : built_of q n 8192 8192 ≡ Done w) → made_of q n ≡ after_normal (planned_set (plan q n w done)) (normalized_of store32 (planned_set (plan q n w done)) n 8192)
   unfolding made_of judged
   made_done w done =
       let p = plan q n w done in
-      rw ((planned q n w done).ready, (planned q n w done).room, ← or_zero_done p _ (after_normal (planned_set p) (normalizedOf store32 (planned_set p) n 8192)) (planned q n w done).whole)
+      rw ((planned q n w done).ready, (planned q n w done).room, ← or_zero_done p _ (after_normal (planned_set p) (normalized_of store32 (planned_set p) n 8192)) (planned q n w done).whole)

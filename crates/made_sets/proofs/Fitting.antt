@@ -15,7 +15,7 @@ use Rattle.lists.proofs.TabLaws.{length_tab, get_d_tab}
 use Rattle.refusal.specs.declared.Refusal.TheVariants.{WeightOutside}
 use Rattle.windows.specs.Set.{windows}
 use Rattle.windows.specs.Store.{store32}
-use Rattle.windows.specs.Fit.{bad_window, badAt, bad_counts, badSet}
+use Rattle.windows.specs.Fit.{bad_window, bad_at, bad_counts, bad_set}
 use Rattle.plans.specs.declared.Request.{Request}
 use Rattle.plans.specs.declared.Plan.{Plan}
 use Rattle.plans.proofs.PlanLaws.{plan_sound}
@@ -28,7 +28,7 @@ use Rattle.coefficients.proofs.BuiltLaws.{done_lines}
 use Rattle.weight_precision.specs.Precision.{precision}
 use Rattle.normalizer.specs.declared.Normalized.{Normalized}
 use Rattle.normalizer.specs.declared.Normalized.TheVariants.{Done as Normal, Refused as NormalRefused}
-use Rattle.normalizer.specs.Answer.{too_few_slots, bad_weights, normalizedOf}
+use Rattle.normalizer.specs.Answer.{too_few_slots, bad_weights, normalized_of}
 use Rattle.made_sets.specs.Made.{planned_set, Made, after_normal, made_of, answer_of}
 use Rattle.made_sets.proofs.Choice.{made_done}
 use Rattle.made_sets.proofs.Planned.{planned, plan, room}
@@ -78,7 +78,7 @@ module _ (q : Request) (n w : ℕ) (done : built_of q n 8192 8192 ≡ Done w) wh
       let few : p.output * p.window ≤ n = le_trans (le_of_eq (ap (λ (k : ℕ). k * p.window) outputs ∙ ap (λ (k : ℕ). q.output * k) (sym (planned q n w done).wide))) r.slots_there in
       rw (windows_are, le-ltb n (p.output * p.window) few, le-ltb 8192 p.output (le_trans (le_of_eq outputs) r.few))
 
-  each_fits : (i : ℕ) → i < p.output → badAt (planned_set p).layout i ≡ false
+  each_fits : (i : ℕ) → i < p.output → bad_at (planned_set p).layout i ≡ false
   unfolding planned_set
   each_fits i h = rw (at (lead p) p.output i h, at (size p) p.output i h) (window_good p.side p.window (lead p i) (size p i) (window i h).some (window i h).room (window i h).inside)
 
@@ -89,12 +89,12 @@ module _ (q : Request) (n w : ℕ) (done : built_of q n 8192 8192 ≡ Done w) wh
       let full : length (planned_set p).weights ≡ windows (planned_set p).layout * p.window = length_tab 0 (slots p) (grid p.window (slot p)) ∙ ap (λ (k : ℕ). k * p.window) (sym windows_are) in
       counts_fit p.window (length (planned_set p).weights) (windows (planned_set p).layout) (length (planned_set p).layout.sizes) (le_trans first.some first.room) (plan_sound q p (planned q n w done).ready).narrow long full
 
-  set_fits : badSet (planned_set p).layout (length (planned_set p).weights) ≡ false
-  set_fits = neither counts_are (none_any (badAt (planned_set p).layout) (windows (planned_set p).layout) (λ i h. each_fits i (lt_of_lt_of_le h (le_of_eq windows_are))))
+  set_fits : bad_set (planned_set p).layout (length (planned_set p).weights) ≡ false
+  set_fits = neither counts_are (none_any (bad_at (planned_set p).layout) (windows (planned_set p).layout) (λ i h. each_fits i (lt_of_lt_of_le h (le_of_eq windows_are))))
 
   -- what the normaliser answers: 9, or the precision
-  normal_is : normalizedOf store32 (planned_set p) n 8192 ≡ cond (bad_weights store32 (planned_set p) n 8192) (NormalRefused WeightOutside) (Normal (precision store32 (planned_set p).weights))
-  unfolding normalizedOf
+  normal_is : normalized_of store32 (planned_set p) n 8192 ≡ cond (bad_weights store32 (planned_set p) n 8192) (NormalRefused WeightOutside) (Normal (precision store32 (planned_set p).weights))
+  unfolding normalized_of
   normal_is = rw (sides_fit, room_there, set_fits)
 
   -- so the answer's number is 9, or 0

@@ -22,9 +22,9 @@ use Rattle.coefficients.specs.declared.Built.TheVariants.{Blank}
 use Rattle.coefficients.specs.Request.{too_few_slots, judged}
 use Rattle.normalizer.specs.declared.Normalized.{Normalized}
 use Rattle.normalizer.specs.declared.Normalized.TheVariants.{Done as Normal, Refused as NormalRefused}
-use Rattle.normalizer.specs.Answer.{normalizedOf}
+use Rattle.normalizer.specs.Answer.{normalized_of}
 use Rattle.made_sets.specs.Made.{planned_set, stored_at, Made, new, none, after_normal, refused_by, made_of}
-use Rattle.made_sets.proofs.Planned.{Kept, kept_by}
+use Rattle.made_sets.proofs.Planned.{kept_by}
 
 -- a set in a share of n slots
 pub record Fits (n : ℕ) (s : Stored) : Type 0 where
@@ -69,11 +69,11 @@ unfolding made_of judged or_zero
 made_fits q n = go (plan_of q) refl
   where
     made : (p : Plan) → plan_of q ≡ Ready p → (t u : Bool) → too_few_slots p n 8192 8192 ≡ t
-        → FitsMade n (cond t (refused_by TooFewSlots) (cond u (none (Blank (record { 0 = first_blank p }))) (after_normal (planned_set p) (normalizedOf store32 (planned_set p) n 8192))))
+        → FitsMade n (cond t (refused_by TooFewSlots) (cond u (none (Blank (record { 0 = first_blank p }))) (after_normal (planned_set p) (normalized_of store32 (planned_set p) n 8192))))
     made p e true u h = tt
     made p e false true h = tt
-    made p e false false h = normal_fits q p n e h (normalizedOf store32 (planned_set p) n 8192)
+    made p e false false h = normal_fits q p n e h (normalized_of store32 (planned_set p) n 8192)
 
-    go : (x : Planned) → plan_of q ≡ x → FitsMade n (judged x n 8192 8192 refused_by (λ p. or_zero p (none (Blank (record { 0 = first_blank p }))) (after_normal (planned_set p) (normalizedOf store32 (planned_set p) n 8192))))
+    go : (x : Planned) → plan_of q ≡ x → FitsMade n (judged x n 8192 8192 refused_by (λ p. or_zero p (none (Blank (record { 0 = first_blank p }))) (after_normal (planned_set p) (normalized_of store32 (planned_set p) n 8192))))
     go (Refused refusal) e = tt
     go (Ready p) e = made p e (too_few_slots p n 8192 8192) (ltb (first_blank p) p.output) refl

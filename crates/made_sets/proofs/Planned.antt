@@ -1,21 +1,19 @@
 -- What is known where the builder answered with a set: the lists that it was lent begin with the plan's own set, whatever they held before, and the set is one that no test of
 -- the normaliser refuses but that of its weights. Cited by Making and Made. Assumes nothing.
-use mathlib.Core.Path.{◌≡◌, refl, sym, ap, ◌∙◌, subst}
-use mathlib.Core.Bool.{Bool, false, ◌||◌}
+use mathlib.Core.Path.{◌≡◌, refl, sym, ap, ◌∙◌}
+use mathlib.Core.Bool.{◌||◌}
 use mathlib.Core.List.{List, ◌++◌, append_assoc}
-use Prim.Native.Nat.{ℕ, ◌+◌, ◌*◌, ◌≤◌, ◌<◌}
-use native.Mathlib.Nat.{le_trans, le_of_eq, lt_of_lt_of_le}
-use native.Mathlib.Omega.{arith}
+use Prim.Native.Nat.{ℕ, ◌*◌, ◌≤◌, ◌<◌}
+use native.Mathlib.Nat.{le_trans, le_of_eq}
 use lib.Dec.{ltb}
 use lib.Ieee.{Float}
-use lib.ListN.{length, get_or, take, drop}
+use lib.ListN.{take, drop}
 use lib.Seq.{take_at}
-use borrow.Author.Tests.{ltb-false, le-ltb}
-use Rattle.lists.specs.Ranges.{bad_sides_value}
+use borrow.Author.Tests.{ltb-false}
 use Rattle.lists.specs.Tab.{tab, front, grid}
 use Rattle.lists.proofs.BoolLaws.{or_left, or_right}
 use Rattle.lists.proofs.TabLaws.{length_tab}
-use Rattle.windows.specs.Set.{layout_of, Set, set_of, windows}
+use Rattle.windows.specs.Set.{layout_of, set_of}
 use Rattle.plans.specs.declared.Axis.{Axis}
 use Rattle.plans.specs.declared.Axis.TheVariants.{Across, Down}
 use Rattle.plans.specs.declared.Request.{Request}

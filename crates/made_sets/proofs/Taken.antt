@@ -1,9 +1,8 @@
 -- The proof of `MadeTaken`: what is made is what the normaliser leaves in two lists of that length, which `left_fits` judges. Assumes nothing.
-use mathlib.Core.Path.{◌≡◌, refl, sym, ap, ◌∙◌, subst}
+use mathlib.Core.Path.{◌≡◌, refl, ap, ◌∙◌, subst}
 use mathlib.Core.Bool.{Bool, true, false, cond}
 use mathlib.Core.List.{List}
 use Prim.Native.Nat.{ℕ, ◌*◌}
-use native.Mathlib.Omega.{arith}
 use lib.Dec.{ltb}
 use lib.Ieee.{Float}
 use lib.IntN.{ℤ, pos}
@@ -15,7 +14,6 @@ use Rattle.refusal.specs.declared.Refusal.TheVariants.{TooFewSlots}
 use Rattle.windows.specs.Set.{Set, set_of, Stored, stored_of, windows}
 use Rattle.windows.specs.Store.{store32}
 use Rattle.windows.specs.Fit.{unfit}
-use Rattle.plans.specs.declared.Plan.{Plan}
 use Rattle.plans.specs.declared.Planned.{Planned}
 use Rattle.plans.specs.declared.Planned.TheVariants.{Ready, Refused}
 use Rattle.plans.specs.Plan.{plan_of}
@@ -25,7 +23,7 @@ use Rattle.coefficients.specs.Request.{too_few_slots, judged}
 use Rattle.weight_slots.specs.Slots.{slot_at}
 use Rattle.normalizer.specs.declared.Normalized.{Normalized}
 use Rattle.normalizer.specs.declared.Normalized.TheVariants.{Done as Normal, Refused as NormalRefused}
-use Rattle.normalizer.specs.Answer.{normalizedOf, written_by, written_of, excesses_by, excesses_of, precision_in, excess_at}
+use Rattle.normalizer.specs.Answer.{normalized_of, written_by, written_of, excesses_by, excesses_of, precision_in, excess_at}
 use Rattle.normalizer.specs.Left.{left_set}
 use Rattle.normalizer.proofs.Left.{left_fits}
 use Rattle.made_sets.specs.Made.{planned_set, stored_at, Made, new, none, after_normal, refused_by, made_of}
@@ -35,7 +33,7 @@ take_front : (n : ℕ) (f : ℕ → ℤ) (old : List ℤ) → take n (front n f 
 unfolding front
 take_front n f old = take_at (tab 0 n f) (drop n old) n (length_tab 0 n f)
 
-module _ (d : Set Float) (out excesses : List ℤ) (p : ℕ) (h : normalizedOf store32 d (length out) (length excesses) ≡ Normal p) where
+module _ (d : Set Float) (out excesses : List ℤ) (p : ℕ) (h : normalized_of store32 d (length out) (length excesses) ≡ Normal p) where
   left_is : left_set store32 d out excesses ≡ stored_at d p
   unfolding written_of written_by excesses_of excesses_by stored_at
   left_is =
@@ -53,29 +51,29 @@ long : (n : ℕ) → length (zeros n) ≡ n
 unfolding zeros
 long n = length_tab 0 n (λ k. pos 0)
 
-stored_taken : (d : Set Float) (n m p : ℕ) → normalizedOf store32 d n m ≡ Normal p → unfit (stored_at d p) store32 ≡ false
+stored_taken : (d : Set Float) (n m p : ℕ) → normalized_of store32 d n m ≡ Normal p → unfit (stored_at d p) store32 ≡ false
 stored_taken d n m p h =
-    let here : normalizedOf store32 d (length (zeros n)) (length (zeros m)) ≡ Normal p = rw (long n, long m) h in
+    let here : normalized_of store32 d (length (zeros n)) (length (zeros m)) ≡ Normal p = rw (long n, long m) h in
     subst (λ (s : Stored). unfit s store32 ≡ false) (left_is d (zeros n) (zeros m) p here) (left_fits store32 d (zeros n) (zeros m) p here)
 
 Taken : Made → Type 0
 Taken (new stored) = unfit stored store32 ≡ false
 Taken (none answer) = Unit {0}
 
-normal_taken : (d : Set Float) (n m : ℕ) (y : Normalized) → normalizedOf store32 d n m ≡ y → Taken (after_normal d y)
+normal_taken : (d : Set Float) (n m : ℕ) (y : Normalized) → normalized_of store32 d n m ≡ y → Taken (after_normal d y)
 unfolding after_normal Taken
 normal_taken d n m (Normal p) e = stored_taken d n m p e
 normal_taken d n m (NormalRefused refusal) e = tt
 
-planned_taken : (n : ℕ) (x : Planned) → Taken (judged x n 8192 8192 refused_by (λ p. or_zero p (none (Blank (record { 0 = first_blank p }))) (after_normal (planned_set p) (normalizedOf store32 (planned_set p) n 8192))))
+planned_taken : (n : ℕ) (x : Planned) → Taken (judged x n 8192 8192 refused_by (λ p. or_zero p (none (Blank (record { 0 = first_blank p }))) (after_normal (planned_set p) (normalized_of store32 (planned_set p) n 8192))))
 unfolding judged or_zero Taken
 planned_taken n (Refused refusal) = tt
 planned_taken n (Ready p) = go (too_few_slots p n 8192 8192) (ltb (first_blank p) p.output)
   where
-    go : (t u : Bool) → Taken (cond t (refused_by TooFewSlots) (cond u (none (Blank (record { 0 = first_blank p }))) (after_normal (planned_set p) (normalizedOf store32 (planned_set p) n 8192))))
+    go : (t u : Bool) → Taken (cond t (refused_by TooFewSlots) (cond u (none (Blank (record { 0 = first_blank p }))) (after_normal (planned_set p) (normalized_of store32 (planned_set p) n 8192))))
     go true u = tt
     go false true = tt
-    go false false = normal_taken (planned_set p) n 8192 (normalizedOf store32 (planned_set p) n 8192) refl
+    go false false = normal_taken (planned_set p) n 8192 (normalized_of store32 (planned_set p) n 8192) refl
 
 pub made_taken : MadeTaken
 unfolding made_of Taken

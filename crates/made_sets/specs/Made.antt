@@ -15,7 +15,7 @@ use Rattle.coefficients.specs.Request.{judged}
 use Rattle.weight_slots.specs.Slots.{slot_at}
 use Rattle.normalizer.specs.declared.Normalized.{Normalized}
 use Rattle.normalizer.specs.declared.Normalized.TheVariants.{Done as Normal, Refused as NormalRefused}
-use Rattle.normalizer.specs.Answer.{normalizedOf, excess_at}
+use Rattle.normalizer.specs.Answer.{normalized_of, excess_at}
 
 -- the windows of a plan as a set of doubles
 unfoldable pub planned_set : Plan → Set Float
@@ -49,7 +49,7 @@ refused_by refusal = none (Refused refusal)
 unfoldable pub made_of : Request → ℕ → Made
 made_of q share =
     judged (plan_of q) share 8192 8192 refused_by
-    (λ p. or_zero p (none (Blank (record { 0 = first_blank p }))) (after_normal (planned_set p) (normalizedOf store32 (planned_set p) share 8192)))
+    (λ p. or_zero p (none (Blank (record { 0 = first_blank p }))) (after_normal (planned_set p) (normalized_of store32 (planned_set p) share 8192)))
 
 -- the answer: with a new set its window size
 unfoldable pub answer_of : Made → Built

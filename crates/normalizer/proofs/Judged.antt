@@ -20,7 +20,7 @@ use Rattle.lists.proofs.TabLaws.{tab_ext, length_front, front_below, row_end}
 use Rattle.refusal.specs.declared.Refusal.{Refusal}
 use Rattle.refusal.specs.declared.Refusal.TheVariants.{BadSide, TooFewSlots, DoesNotFit, WeightOutside}
 use Rattle.windows.specs.declared.Store.{Store}
-use Rattle.windows.specs.Fit.{badSet, Fits, InSlots}
+use Rattle.windows.specs.Fit.{bad_set, Fits, InSlots}
 use Rattle.windows.specs.Set.{Set, windows, size}
 use Rattle.windows.specs.Store.{largest_precision}
 use Rattle.windows.proofs.Fits.{fits, in_slots}
@@ -29,7 +29,7 @@ use Rattle.excesses.proofs.SameExcess.{excess_ext}
 use Rattle.weight_precision.specs.Precision.{precision, reaches, largest}
 use Rattle.weight_precision.specs.Weights.{not_finite_value, leaves, unstorable}
 use Rattle.weight_slots.specs.Slots.{slot_at}
-use Rattle.normalizer.specs.Answer.{too_few_slots, bad_weights, normalizedOf, excess_at, written_by, written_of, excesses_by, excesses_of, number_of, precision_in}
+use Rattle.normalizer.specs.Answer.{too_few_slots, bad_weights, normalized_of, excess_at, written_by, written_of, excesses_by, excesses_of, number_of, precision_in}
 use Rattle.normalizer.specs.declared.Normalized.{Normalized}
 use Rattle.normalizer.specs.declared.Normalized.TheVariants.{Done, Refused}
 
@@ -45,39 +45,39 @@ slots_fit lines starts window_size_value h w =
 
 module _ (store : Store) (s : Set Float) (room places : ℕ) where
   -- the refusals, in order
-  pub first_row : bad_sides_value s.layout.lines (windows s.layout) ≡ true → Refused BadSide ≡ normalizedOf store s room places
-  unfolding normalizedOf
+  pub first_row : bad_sides_value s.layout.lines (windows s.layout) ≡ true → Refused BadSide ≡ normalized_of store s room places
+  unfolding normalized_of
   first_row a = rw a
 
   module _ (a : bad_sides_value s.layout.lines (windows s.layout) ≡ false) where
-    pub second_row : too_few_slots store s room places ≡ true → Refused TooFewSlots ≡ normalizedOf store s room places
-    unfolding normalizedOf
+    pub second_row : too_few_slots store s room places ≡ true → Refused TooFewSlots ≡ normalized_of store s room places
+    unfolding normalized_of
     second_row b = rw (a, b)
 
     module _ (b : too_few_slots store s room places ≡ false) where
-      pub third_row : badSet s.layout (length s.weights) ≡ true → Refused DoesNotFit ≡ normalizedOf store s room places
-      unfolding normalizedOf
+      pub third_row : bad_set s.layout (length s.weights) ≡ true → Refused DoesNotFit ≡ normalized_of store s room places
+      unfolding normalized_of
       third_row c = rw (a, b, c)
 
-      module _ (c : badSet s.layout (length s.weights) ≡ false) where
+      module _ (c : bad_set s.layout (length s.weights) ≡ false) where
         -- No. 9, in the judge's two steps
-        pub weight_row : any (length s.weights) (not_finite_value s.weights) ≡ true → Refused WeightOutside ≡ normalizedOf store s room places
-        unfolding normalizedOf
+        pub weight_row : any (length s.weights) (not_finite_value s.weights) ≡ true → Refused WeightOutside ≡ normalized_of store s room places
+        unfolding normalized_of
         weight_row d = rw (a, b, c, d)
 
         module _ (d : any (length s.weights) (not_finite_value s.weights) ≡ false) (p : ℕ) (e : p ≡ precision store s.weights) where
-          pub precision_row : unstorable store p s.layout.window_size_value s.weights s.layout.sizes ≡ true → Refused WeightOutside ≡ normalizedOf store s room places
-          unfolding normalizedOf
+          pub precision_row : unstorable store p s.layout.window_size_value s.weights s.layout.sizes ≡ true → Refused WeightOutside ≡ normalized_of store s room places
+          unfolding normalized_of
           precision_row g = rw (a, b, c, d, ← e, g)
 
-          pub no_row : unstorable store p s.layout.window_size_value s.weights s.layout.sizes ≡ false → Done p ≡ normalizedOf store s room places
-          unfolding normalizedOf
+          pub no_row : unstorable store p s.layout.window_size_value s.weights s.layout.sizes ≡ false → Done p ≡ normalized_of store s room places
+          unfolding normalized_of
           no_row g = rw (a, b, c, d, ← e, g)
 
   -- what an answer of `Done p` says
   pub record Ready (p : ℕ) : Type 0 where
     pub sides : bad_sides_value s.layout.lines (windows s.layout) ≡ false
-    pub lists : badSet s.layout (length s.weights) ≡ false
+    pub lists : bad_set s.layout (length s.weights) ≡ false
     pub found : p ≡ precision store s.weights
     pub least : 4 ≤ p
     pub fits : Fits s.layout (length s.weights)
@@ -88,12 +88,12 @@ module _ (store : Store) (s : Set Float) (room places : ℕ) where
   refused : (r : Refusal) (p : ℕ) → 0 < number_of (Refused r) → Refused r ≡ Done p → ⊥
   refused r p l e = let z = ap number_of e in omega arith
 
-  pub ready : (p : ℕ) → normalizedOf store s room places ≡ Done p → Ready p
-  unfolding normalizedOf
+  pub ready : (p : ℕ) → normalized_of store s room places ≡ Done p → Ready p
+  unfolding normalized_of
   ready p h =
       let a = ladder (bad_sides_value s.layout.lines (windows s.layout)) (refused BadSide p (omega arith)) h in
       let b = ladder (too_few_slots store s room places) (refused TooFewSlots p (omega arith)) a.1 in
-      let c = ladder (badSet s.layout (length s.weights)) (refused DoesNotFit p (omega arith)) b.1 in
+      let c = ladder (bad_set s.layout (length s.weights)) (refused DoesNotFit p (omega arith)) b.1 in
       let d = ladder (bad_weights store s room places) (refused WeightOutside p (omega arith)) c.1 in
       let e : p ≡ precision store s.weights = sym (ap precision_in d.1) in
       let q = precision store s.weights in
@@ -112,18 +112,18 @@ module _ (store : Store) (s : Set Float) (room places : ℕ) where
       }
 
 -- the slots afterwards, by the answer
-pub refused_written : (store : Store) (s : Set Float) (refusal : Refusal) (places : ℕ) (old : List ℤ) → normalizedOf store s (length old) places ≡ Refused refusal → old ≡ written_of store s places old
+pub refused_written : (store : Store) (s : Set Float) (refusal : Refusal) (places : ℕ) (old : List ℤ) → normalized_of store s (length old) places ≡ Refused refusal → old ≡ written_of store s places old
 unfolding written_of written_by
 refused_written store s refusal places old h = ap (λ (answer : Normalized). written_by store s answer old) (sym h)
 
-pub done_written : (store : Store) (s : Set Float) (p places : ℕ) (old after : List ℤ) → normalizedOf store s (length old) places ≡ Done p → after ≡ front (length s.weights) (slot_at store p s.layout.window_size_value s.weights s.layout.sizes) old → after ≡ written_of store s places old
+pub done_written : (store : Store) (s : Set Float) (p places : ℕ) (old after : List ℤ) → normalized_of store s (length old) places ≡ Done p → after ≡ front (length s.weights) (slot_at store p s.layout.window_size_value s.weights s.layout.sizes) old → after ≡ written_of store s places old
 unfolding written_of written_by
 done_written store s p places old after h e =
     e ∙ ap (λ (n : ℕ). front n (slot_at store p s.layout.window_size_value s.weights s.layout.sizes) old) (ready store s (length old) places p h).fits.full
     ∙ ap (λ (answer : Normalized). written_by store s answer old) (sym h)
 
 -- the excesses afterwards
-pub refused_excesses : (store : Store) (s : Set Float) (refusal : Refusal) (room : ℕ) (old : List ℤ) → normalizedOf store s room (length old) ≡ Refused refusal → old ≡ excesses_of store s room old
+pub refused_excesses : (store : Store) (s : Set Float) (refusal : Refusal) (room : ℕ) (old : List ℤ) → normalized_of store s room (length old) ≡ Refused refusal → old ≡ excesses_of store s room old
 unfolding excesses_of excesses_by
 refused_excesses store s refusal room old h = ap (λ (answer : Normalized). excesses_by store s answer old) (sym h)
 
@@ -132,7 +132,7 @@ unfolding front
 front_ext n f g old h = ap (λ (l : List ℤ). l ++ drop n old) (tab_ext 0 n f g (λ i l. rw zero-add (h i l)))
 
 -- a set that was judged, whose slots were written over what the list held
-module _ (store : Store) (s : Set Float) (p : ℕ) (held old : List ℤ) (h : normalizedOf store s (length held) (length old) ≡ Done p)
+module _ (store : Store) (s : Set Float) (p : ℕ) (held old : List ℤ) (h : normalized_of store s (length held) (length old) ≡ Done p)
     (slots : List ℤ) (e : slots ≡ front (length s.weights) (slot_at store p s.layout.window_size_value s.weights s.layout.sizes) held) where
   set : Ready store s (length held) (length old) p
   set = ready store s (length held) (length old) p h

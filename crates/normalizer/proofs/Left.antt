@@ -18,12 +18,12 @@ use Rattle.lists.proofs.TabLaws.{length_tab, get_d_tab, row_end}
 use Rattle.windows.specs.declared.Store.{Store}
 use Rattle.windows.specs.Set.{Set, set_of, Stored, stored_of, windows, size, excess_of}
 use Rattle.windows.specs.Store.{largest_precision, bad_precision}
-use Rattle.windows.specs.Fit.{badSet, badExcesses, unfit}
+use Rattle.windows.specs.Fit.{bad_set, bad_excesses, unfit}
 use Rattle.excesses.proofs.RightLaws.{right_excesses}
 use Rattle.excesses.proofs.SameExcess.{excess_ext}
 use Rattle.weight_precision.specs.Precision.{precision, reaches, largest}
 use Rattle.weight_slots.specs.Slots.{slot_at}
-use Rattle.normalizer.specs.Answer.{excess_at, normalizedOf, written_by, written_of, excesses_by, excesses_of, precision_in}
+use Rattle.normalizer.specs.Answer.{excess_at, normalized_of, written_by, written_of, excesses_by, excesses_of, precision_in}
 use Rattle.normalizer.specs.Left.{left_set}
 use Rattle.normalizer.specs.declared.Normalized.{Normalized}
 use Rattle.normalizer.specs.declared.Normalized.TheVariants.{Done}
@@ -43,7 +43,7 @@ at f n k l = get_d_tab 0 n f k (pos 0) l ∙ ap f (zero-add k)
 none_due : (a b c d : Bool) → a ≡ false → b ≡ false → c ≡ false → d ≡ false → a || ((b || c) || d) ≡ false
 none_due a b c d h i j k = rw (h, i, j, k) refl
 
-module _ (store : Store) (s : Set Float) (out excesses : List ℤ) (p : ℕ) (h : normalizedOf store s (length out) (length excesses) ≡ Done p) where
+module _ (store : Store) (s : Set Float) (out excesses : List ℤ) (p : ℕ) (h : normalized_of store s (length out) (length excesses) ≡ Done p) where
   set : Ready store s (length out) (length excesses) p
   set = ready store s (length out) (length excesses) p h
 
@@ -69,9 +69,9 @@ module _ (store : Store) (s : Set Float) (out excesses : List ℤ) (p : ℕ) (h 
       let n = windows s.layout in
       let most = precision_most store s.weights in
       let found = set.found in
-      none_due (bad_sides_value s.layout.lines n) (badSet s.layout (length plain.set.weights)) (bad_precision store p) (badExcesses plain)
+      none_due (bad_sides_value s.layout.lines n) (bad_set s.layout (length plain.set.weights)) (bad_precision store p) (bad_excesses plain)
       set.sides
-      (subst (λ (k : ℕ). badSet s.layout k ≡ false) (set.fits.full ∙ sym (length_tab 0 (n * wide) slot)) set.lists)
+      (subst (λ (k : ℕ). bad_set s.layout k ≡ false) (set.fits.full ∙ sym (length_tab 0 (n * wide) slot)) set.lists)
       (rw (le-ltb p 4 set.least, le-ltb (largest_precision store) p (omega arith)) refl)
       (right_excesses plain (length_tab 0 n (excess_at store p s)) excess_there)
 

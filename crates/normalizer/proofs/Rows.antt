@@ -12,9 +12,9 @@ use Rattle.lists.proofs.LadderLaws.{exactly_due}
 use Rattle.refusal.specs.declared.Refusal.TheVariants.{BadSide, TooFewSlots, DoesNotFit, WeightOutside}
 use Rattle.windows.specs.declared.Store.{Store}
 use Rattle.windows.specs.Set.{Set, windows}
-use Rattle.windows.specs.Fit.{badSet}
+use Rattle.windows.specs.Fit.{bad_set}
 use Rattle.weight_precision.specs.Precision.{precision}
-use Rattle.normalizer.specs.Answer.{too_few_slots, bad_weights, normalizedOf, number_of}
+use Rattle.normalizer.specs.Answer.{too_few_slots, bad_weights, normalized_of, number_of}
 use Rattle.normalizer.specs.declared.Normalized.TheVariants.{Done, Refused}
 
 numbered : (a b c d : Bool) (p : ℕ) → number_of (cond a (Refused BadSide) (cond b (Refused TooFewSlots) (cond c (Refused DoesNotFit) (cond d (Refused WeightOutside) (Done p))))) ≡ cond a 1 (cond b 7 (cond c 10 (cond d 9 0)))
@@ -30,13 +30,13 @@ module _ (store : Store) (s : Set Float) (room places : ℕ) where
   rows =
       (bad_sides_value s.layout.lines (windows s.layout), 1)
       ∷ (too_few_slots store s room places, 7)
-      ∷ (badSet s.layout (length s.weights), 10)
+      ∷ (bad_set s.layout (length s.weights), 10)
       ∷ (bad_weights store s room places, 9)
       ∷ []
 
-  is : number_of (normalizedOf store s room places) ≡ given rows
-  unfolding normalizedOf
-  is = numbered (bad_sides_value s.layout.lines (windows s.layout)) (too_few_slots store s room places) (badSet s.layout (length s.weights)) (bad_weights store s room places) (precision store s.weights)
+  is : number_of (normalized_of store s room places) ≡ given rows
+  unfolding normalized_of
+  is = numbered (bad_sides_value s.layout.lines (windows s.layout)) (too_few_slots store s room places) (bad_set s.layout (length s.weights)) (bad_weights store s room places) (precision store s.weights)
 
-  pub normalized_exactly : (n : ℕ) → Exactly (number_of (normalizedOf store s room places) ≡ n) (Due n rows)
+  pub normalized_exactly : (n : ℕ) → Exactly (number_of (normalized_of store s room places) ≡ n) (Due n rows)
   normalized_exactly n = rw is (exactly_due n rows refl)

@@ -9,7 +9,7 @@ use Rattle.refusal.specs.declared.Refusal.TheVariants.{TooFewSlots, DoesNotFit, 
 use Rattle.windows.specs.Set.{Set, layout_of, set_of}
 use Rattle.windows.specs.Store.{store16}
 use Rattle.weight_precision.specs.Precision.{largest, scaled, precision}
-use Rattle.normalizer.specs.Answer.{normalizedOf}
+use Rattle.normalizer.specs.Answer.{normalized_of}
 use Rattle.normalizer.specs.declared.Normalized.TheVariants.{Done, Refused}
 
 abbrev one : Float
@@ -21,9 +21,9 @@ lone w size = set_of (layout_of 1 1 (0 ∷ []) (size ∷ [])) (w ∷ [])
 
 -- 4000 has precision 2, which is below 4; beside a window that does not fit, No. 10 comes first, and before that No. 7 where no place is lent for the excess
 pub refusals :
-    (normalizedOf store16 (lone one 1) 1 1 ≡ Done 14)
-    × (normalizedOf store16 (lone (double 4000) 1) 1 1 ≡ Refused WeightOutside)
-    × (normalizedOf store16 (lone (double 4000) 0) 1 1 ≡ Refused DoesNotFit)
-    × (normalizedOf store16 (lone (double 4000) 0) 1 0 ≡ Refused TooFewSlots)
-unfolding normalizedOf precision largest scaled whole of_int div mul le lt neg round of_bits
+    (normalized_of store16 (lone one 1) 1 1 ≡ Done 14)
+    × (normalized_of store16 (lone (double 4000) 1) 1 1 ≡ Refused WeightOutside)
+    × (normalized_of store16 (lone (double 4000) 0) 1 1 ≡ Refused DoesNotFit)
+    × (normalized_of store16 (lone (double 4000) 0) 1 0 ≡ Refused TooFewSlots)
+unfolding normalized_of precision largest scaled whole of_int div mul le lt neg round of_bits
 refusals = (refl, refl, refl, refl)

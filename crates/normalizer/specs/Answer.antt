@@ -8,7 +8,7 @@ use Rattle.refusal.specs.Refusal.{number_of as numberOfRefusal}
 use Rattle.refusal.specs.declared.Refusal.TheVariants.{BadSide, TooFewSlots, DoesNotFit, WeightOutside}
 use Rattle.windows.specs.declared.Store.{Store}
 use Rattle.windows.specs.Set.{Set, windows, size, excess}
-use Rattle.windows.specs.Fit.{badSet}
+use Rattle.windows.specs.Fit.{bad_set}
 use Rattle.weight_precision.specs.Precision.{precision}
 use Rattle.weight_precision.specs.Weights.{not_finite_value, unstorable}
 use Rattle.weight_slots.specs.Slots.{slot_at}
@@ -26,11 +26,11 @@ module _ (store : Store) (s : Set Float) (room places : ℕ) where
   bad_weights = any (length s.weights) (not_finite_value s.weights) || unstorable store (precision store s.weights) s.layout.window_size_value s.weights s.layout.sizes
 
   -- the answer
-  unfoldable pub normalizedOf : Normalized
-  normalizedOf =
+  unfoldable pub normalized_of : Normalized
+  normalized_of =
       cond (bad_sides_value s.layout.lines (windows s.layout)) (Refused BadSide)
       (cond too_few_slots (Refused TooFewSlots)
-      (cond (badSet s.layout (length s.weights)) (Refused DoesNotFit)
+      (cond (bad_set s.layout (length s.weights)) (Refused DoesNotFit)
       (cond bad_weights (Refused WeightOutside)
       (Done (precision store s.weights)))))
 
@@ -50,10 +50,10 @@ excesses_by store s (Refused refusal) old = old
 
 -- the slots afterwards, and the excesses
 unfoldable pub written_of : Store → Set Float → ℕ → List ℤ → List ℤ
-written_of store s places old = written_by store s (normalizedOf store s (length old) places) old
+written_of store s places old = written_by store s (normalized_of store s (length old) places) old
 
 unfoldable pub excesses_of : Store → Set Float → ℕ → List ℤ → List ℤ
-excesses_of store s room old = excesses_by store s (normalizedOf store s room (length old)) old
+excesses_of store s room old = excesses_by store s (normalized_of store s room (length old)) old
 
 -- document 01's number of an answer, and the precision beside it
 abbrev pub number_of : Normalized → ℕ

@@ -3,16 +3,16 @@
 use Rattle.std.specs.Prelude.{List, ◌*◌, ℤ, length, take, Float}
 use Rattle.windows.specs.declared.Store.{Store}
 use Rattle.windows.specs.Set.{Set, set_of, Stored, stored_of, windows}
-use Rattle.normalizer.specs.Answer.{normalizedOf, written_of, excesses_of, precision_in}
+use Rattle.normalizer.specs.Answer.{normalized_of, written_of, excesses_of, precision_in}
 use Rattle.normalizer.specs.declared.Normalized.{Normalized}
 
 module _ (store : Store) (s : Set Float) (out excesses : List ℤ) where
-  abbrev pub answerFor : Normalized
-  answerFor = normalizedOf store s (length out) (length excesses)
+  abbrev pub answer_for : Normalized
+  answer_for = normalized_of store s (length out) (length excesses)
 
   abbrev pub left_set : Stored
   left_set =
       stored_of
       (set_of s.layout (take (windows s.layout * s.layout.window_size_value) (written_of store s (length excesses) out)))
-      (precision_in answerFor)
+      (precision_in answer_for)
       (take (windows s.layout) (excesses_of store s (length out) excesses))

@@ -1,7 +1,7 @@
 // The judge of a set for either store.
 ghost use Rattle.std.specs.Prelude.{◌≡◌, ◌≤◌};
 ghost use Rattle.windows.specs.Set.{layout_of, set_of};
-ghost use Rattle.normalizer.specs.Answer.{normalizedOf};
+ghost use Rattle.normalizer.specs.Answer.{normalized_of};
 
 use crate::Normalized;
 use refusal::Refusal;
@@ -22,7 +22,7 @@ pub(crate) fn judge(
     requires fact_1 { 1 ≤ store.bits }
     requires fact_2 { store.bits ≤ 46 }
     requires fact_3 { store.limit ≤ 51 }
-    ensures { result ≡ normalizedOf store (set_of (layout_of lines window_size starts.now sizes.now) weights.now) room places }
+    ensures { result ≡ normalized_of store (set_of (layout_of lines window_size starts.now sizes.now) weights.now) room places }
 {
     if !sides_fit(lines, starts.len()) {
         return Normalized::Refused(Refusal::BadSide);

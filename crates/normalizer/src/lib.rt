@@ -9,14 +9,14 @@ ghost use Rattle.std.specs.Prelude.{◌≡◌, length};
 ghost use Rattle.windows.specs.Set.{layout_of, set_of};
 ghost use Rattle.windows.specs.Store.{store16, store32};
 ghost use Rattle.weight_precision.specs.Precision.{precision};
-ghost use Rattle.normalizer.specs.Answer.{normalizedOf, written_of, excesses_of};
+ghost use Rattle.normalizer.specs.Answer.{normalized_of, written_of, excesses_of};
 
 use excesses::{NO_LONG, NO_SHORT, write_excesses};
 use refusal::Refusal;
 use weight_slots::{write16, write32};
 use windows::Store;
 
-#[derive(Drop)]
+#[derive(Clone, Copy)]
 pub enum Normalized {
     // the precision
     Done(u32),
@@ -85,7 +85,7 @@ pub fn normalize16(
     out: &mut [i16],
     excesses: &mut [i64],
 ) -> Normalized
-    ensures answer { result ≡ normalizedOf store16 (set_of (layout_of lines window_size starts.now sizes.now) weights.now) (length out.old) (length excesses.old) }
+    ensures answer { result ≡ normalized_of store16 (set_of (layout_of lines window_size starts.now sizes.now) weights.now) (length out.old) (length excesses.old) }
     ensures written { out.new ≡ written_of store16 (set_of (layout_of lines window_size starts.now sizes.now) weights.now) (length excesses.old) out.old }
     ensures written2 { excesses.new ≡ excesses_of store16 (set_of (layout_of lines window_size starts.now sizes.now) weights.now) (length out.old) excesses.old }
 {
@@ -117,7 +117,7 @@ pub fn normalize32(
     out: &mut [i32],
     excesses: &mut [i64],
 ) -> Normalized
-    ensures answer { result ≡ normalizedOf store32 (set_of (layout_of lines window_size starts.now sizes.now) weights.now) (length out.old) (length excesses.old) }
+    ensures answer { result ≡ normalized_of store32 (set_of (layout_of lines window_size starts.now sizes.now) weights.now) (length out.old) (length excesses.old) }
     ensures written { out.new ≡ written_of store32 (set_of (layout_of lines window_size starts.now sizes.now) weights.now) (length excesses.old) out.old }
     ensures written2 { excesses.new ≡ excesses_of store32 (set_of (layout_of lines window_size starts.now sizes.now) weights.now) (length out.old) excesses.old }
 {

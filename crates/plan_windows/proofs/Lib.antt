@@ -1,3 +1,4 @@
 pub mod LineLaws
 pub mod WindowLaws
+pub mod NoWeight
 pub mod BlankLaws

@@ -7,14 +7,14 @@ pub use planning::{planned_refusal, prepare};
 use refusal::Refusal;
 
 // The axis that is built: across the image (columns) or down it (lines).
-#[derive(Drop)]
+#[derive(Clone, Copy)]
 pub enum Axis {
     Across,
     Down,
 }
 
 // What is asked: both image sides, the crop box, one axis and its output side, the filter's name, and whether the kernel adapts.
-#[derive(Drop)]
+#[derive(Clone, Copy)]
 pub struct Request {
     pub width: u32,
     pub height: u32,
@@ -26,7 +26,7 @@ pub struct Request {
 }
 
 // The crop along the axis.
-#[derive(Drop)]
+#[derive(Clone, Copy)]
 pub struct Edge {
     pub side: u32,
     pub near: f64,
@@ -34,7 +34,7 @@ pub struct Edge {
 }
 
 // The numbers that all windows of a request share; `recip` is one over the filter scale.
-#[derive(Drop)]
+#[derive(Clone, Copy)]
 pub struct Plan {
     pub filter: filters::Filter,
     pub side: u32,
@@ -46,7 +46,7 @@ pub struct Plan {
     pub window: u32,
 }
 
-#[derive(Drop)]
+#[derive(Clone, Copy)]
 pub enum Planned {
     Ready(Plan),
     Refused(Refusal),

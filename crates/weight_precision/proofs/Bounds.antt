@@ -1,6 +1,6 @@
 -- A number between -(2^h + 1/2) and 2^h - 1/2 rounds to one that a type of h bits and a sign holds: half of the next whole number is never reached. Cited by the judge.
 -- Assumes nothing.
-use Rattle.std.proofs.Common.{◌≡◌, ℕ, ◌+◌, ◌-◌, ◌*◌, ◌/◌, ◌^◌, ◌<◌, ◌≤◌, Bool, true, false, not, ◌&&◌, T, ltb, List, length, get_or, sym, refl, ◌∙◌, subst, zero-lt-suc, div-lt_iff_lt-mul, arith, ltb→lt, pow_pos, pow_mono, le-ltb, lt-ltb}
+use Rattle.std.proofs.Common.{◌≡◌, ℕ, ◌+◌, ◌-◌, ◌*◌, ◌^◌, ◌<◌, ◌≤◌, Bool, true, false, not, ◌&&◌, T, List, length, get_or, sym, refl, ◌∙◌, subst, zero-lt-suc, div-lt_iff_lt-mul, arith, ltb→lt, pow_pos, pow_mono, le-ltb, lt-ltb}
 use lib.Ieee.{Float, nan, inf, fin, binary64, lt, neg, round, up, down}
 use lib.Ieee.Exact.{HasValue}
 use lib.Ieee.Back.{round_whole}
