@@ -1,4 +1,4 @@
--- The flags of No. 12 in `vertical` and what the scans find: `bad_weights` fails exactly when every weight in use is at most 2^64 in size, `badSamples` exactly when
+-- The flags of No. 12 in `vertical` and what the scans find: `bad_weights` fails exactly when every weight in use is at most 2^64 in size, `bad_samples` exactly when
 -- every sample in use is finite. Cited by `Judged`. Assumes nothing.
 use mathlib.Core.Path.{◌≡◌, refl, sym, ap, ◌∙◌, subst}
 use mathlib.Core.Bool.{Bool, true, false, not, ◌||◌}
@@ -19,7 +19,7 @@ use Rattle.floats.specs.Within.{AtMost}
 use Rattle.floats.proofs.AtMost.{finite_at}
 use Rattle.numbers.specs.Whole.{abs}
 use Rattle.windows.specs.Set.{Set, windows, size, start}
-use Rattle.vertical.specs.F32.{bad_weight, bad_weights, badLine, badSamples}
+use Rattle.vertical.specs.F32.{bad_weight, bad_weights, bad_line, bad_samples}
 use Rattle.finite_f32.specs.Scan.{FiniteSamples, SmallSamples, SmallWeights}
 use Rattle.finite_f32.proofs.Decided.{decided}
 
@@ -77,22 +77,22 @@ module _ (s : Set Float) where
     place : (i k j : ℕ) → (start s.layout i + k) * row + (first + j) ≡ (start s.layout i + k) * row + first + j
     place i k j = sym (add_assoc ((start s.layout i + k) * row) first j)
 
-    pub samples_good : badSamples s src row first count ≡ false → FiniteSamples src row first count s.layout.starts s.layout.sizes
+    pub samples_good : bad_samples s src row first count ≡ false → FiniteSamples src row first count s.layout.starts s.layout.sizes
     samples_good h i l k m j u =
         subst (λ (y : ℕ). T (finite (get_or src y nan))) (place i k j)
         (sample_finite (get_or src ((start s.layout i + k) * row + (first + j)) nan)
         (any_none (λ j. not (is_finite (get_or src ((start s.layout i + k) * row + (first + j)) nan))) count
-        (any_none (badLine s src row first count i) (size s.layout i) (any_none (λ i. any (size s.layout i) (badLine s src row first count i)) (windows s.layout) h i l) k m) j u))
+        (any_none (bad_line s src row first count i) (size s.layout i) (any_none (λ i. any (size s.layout i) (bad_line s src row first count i)) (windows s.layout) h i l) k m) j u))
 
-    pub good_samples : FiniteSamples src row first count s.layout.starts s.layout.sizes → badSamples s src row first count ≡ false
+    pub good_samples : FiniteSamples src row first count s.layout.starts s.layout.sizes → bad_samples s src row first count ≡ false
     good_samples w =
-        none_any (λ i. any (size s.layout i) (badLine s src row first count i)) (windows s.layout)
-        (λ i l. none_any (badLine s src row first count i) (size s.layout i)
+        none_any (λ i. any (size s.layout i) (bad_line s src row first count i)) (windows s.layout)
+        (λ i l. none_any (bad_line s src row first count i) (size s.layout i)
         (λ k m. none_any (λ j. not (is_finite (get_or src ((start s.layout i + k) * row + (first + j)) nan))) count
         (λ j u. finite_sample (get_or src ((start s.layout i + k) * row + (first + j)) nan) (subst (λ (y : ℕ). T (finite (get_or src y nan))) (sym (place i k j)) (w i l k m j u)))))
 
     -- the scan of the samples says what the flag says
-    pub samples_said : (r : Bool) → (r ≡ true → SmallSamples src row first count s.layout.starts s.layout.sizes) → (r ≡ false → FiniteSamples src row first count s.layout.starts s.layout.sizes → ⊥) → r ≡ not (badSamples s src row first count)
+    pub samples_said : (r : Bool) → (r ≡ true → SmallSamples src row first count s.layout.starts s.layout.sizes) → (r ≡ false → FiniteSamples src row first count s.layout.starts s.layout.sizes → ⊥) → r ≡ not (bad_samples s src row first count)
     samples_said r is isnt =
-        decided r (badSamples s src row first count)
+        decided r (bad_samples s src row first count)
         (λ e i l k m j u. finite_at (get_or src ((start s.layout i + k) * row + first + j) nan) (2 ^ 128) (is e i l k m j u)) isnt good_samples samples_good

@@ -1,18 +1,17 @@
 -- A strip of rows, window by window, and the strips one after the other. Cited by `strip` and `fill_rows`. Assumes nothing.
-use mathlib.Core.Path.{◌≡◌, refl, sym, ap, ◌∙◌}
+use mathlib.Core.Path.{◌≡◌, sym, ap, ◌∙◌}
 use mathlib.Core.List.{List}
 use Prim.Native.Nat.{ℕ, ◌+◌, ◌-◌, ◌*◌, ◌/◌, ◌%◌, ◌<◌, ◌≤◌}
 use native.Mathlib.Nat.{not-suc-le-zero, mod-lt, div-lt_iff_lt-mul, div-add-mod', mul-add-div_right, mul-add-mod_self_right, add-mul}
-use native.Mathlib.Numerals.{add-one}
 use native.Mathlib.Omega.{arith}
 use lib.Arith.{digits_lt, digits_div, digits_mod}
 use lib.IntN.{ℤ}
 use lib.ListN.{length, get_or, take, drop}
 use borrow.Author.Count.{below_more}
-use Rattle.lists.specs.Tab.{tab, grid}
+use Rattle.lists.specs.Tab.{grid}
 use Rattle.lists.proofs.StoreLaws.{part_size, below_block}
 use Rattle.lists.proofs.TabLaws.{grid_at}
-use Rattle.vertical.specs.Column.{column_value, window_value}
+use Rattle.vertical.specs.Column.{window_value}
 use Rattle.vertical.proofs.Columns.{some_column}
 use Rattle.pixels_u16.specs.Places.{place_at, value_of, row_values, behind, Put}
 

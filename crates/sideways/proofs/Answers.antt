@@ -21,8 +21,8 @@ pub record Pixels (components row : ℕ) : Type 0 where
   pub few : InRange 1 4 components
   pub full : row / components * components ≡ row
 
-pub pixels-fit : (components row : ℕ) → bad_pixels components row ≡ false → Pixels components row
-pixels-fit components row h =
+pub pixels_fit : (components row : ℕ) → bad_pixels components row ≡ false → Pixels components row
+pixels_fit components row h =
     let rest : row % components ≡ 0 = eqb-true (row % components) 0 (not-false (eqb (row % components) 0) (or_right (outside 1 4 components) (not (eqb (row % components) 0)) h)) in
     record {
       few = not_outside 1 4 components (or_left (outside 1 4 components) (not (eqb (row % components) 0)) h);
@@ -35,13 +35,13 @@ pub record DoneSideways (s : Stored) (samples components rows row first count ro
   pub vertical : passed_u16 s samples (rows * components) (first * components) (count * components) room ≡ Done
 
 module _ (s : Stored) (samples components rows row first count room : ℕ) where
-  pub done-sideways : passed_sideways s samples components rows row first count room ≡ Done → DoneSideways s samples components rows row first count room
+  pub done_sideways : passed_sideways s samples components rows row first count room ≡ Done → DoneSideways s samples components rows row first count room
   unfolding passed_sideways
-  done-sideways h =
+  done_sideways h =
       let t = ladder (bad_pixels components row) refused h in
       record { pixels = t.0; vertical = t.1 }
 
   -- with whole pixels, the answer is the vertical pass's
-  pub answer-of : bad_pixels components row ≡ false → passed_sideways s samples components rows row first count room ≡ passed_u16 s samples (rows * components) (first * components) (count * components) room
+  pub answer_of : bad_pixels components row ≡ false → passed_sideways s samples components rows row first count room ≡ passed_u16 s samples (rows * components) (first * components) (count * components) room
   unfolding passed_sideways
-  answer-of h = rw h
+  answer_of h = rw h

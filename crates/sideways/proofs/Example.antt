@@ -2,7 +2,7 @@
 use mathlib.Core.Path.{◌≡◌, refl}
 use mathlib.Core.List.{List, [], ◌∷◌}
 use Prim.Native.Nat.{ℕ}
-use lib.IntN.{ℤ, pos, negsuc}
+use lib.IntN.{pos, negsuc}
 use Rattle.integers.specs.Sums.{sum, shifted, clipped}
 use Rattle.refusal.specs.declared.Refusal.TheVariants.{BadSide, DoesNotFit}
 use Rattle.windows.specs.Set.{Stored, stored_of, set_of, layout_of, excess}

@@ -16,13 +16,13 @@ use Rattle.windows.specs.Store.{store32}
 use Rattle.vertical.specs.declared.Passed.TheVariants.{Done}
 use Rattle.vertical.specs.Frame.{frame, output}
 use Rattle.vertical.specs.U16.{value_at, passed_u16, written_u16}
-use Rattle.vertical.proofs.Answers.{Shaped, Tests, tests-u16, tests-shaped, same-frame}
+use Rattle.vertical.proofs.Answers.{Shaped, tests_u16, tests_shaped, same_frame}
 use Rattle.sideways.specs.Exchange.{turned, exchanged, side_output}
 use Rattle.sideways.specs.Sideways.{bad_pixels, passed_sideways, written_sideways}
 use Rattle.sideways.specs.Statements.{SidewaysAnswers, SidewaysIsVertical, RowsCut}
 use Rattle.sideways.proofs.ExchangeLaws.{exchanged_at, length_exchanged, exchange_output, exchanged_twice, rows_cut}
 use Rattle.sideways.proofs.FrameLaws.{frame_ext}
-use Rattle.sideways.proofs.Answers.{pixels-fit, done-sideways, answer-of}
+use Rattle.sideways.proofs.Answers.{pixels_fit, done_sideways, answer_of}
 
 -- a window inside the row, at column j of the exchanged frame
 value_exchanged : (M : ℕ) (s : Stored) (src : List ℕ) (components rows pixels i j : ℕ) → 0 < components → start s.set.layout i + size s.set.layout i ≤ pixels → j < rows * components
@@ -71,14 +71,14 @@ module _ (s : Stored) (src : List ℕ) (components rows pixels first count : ℕ
       → passed_sideways s (length src) components rows (pixels * components) first count room ≡ passed_u16 s (length list) (rows * components) (first * components) (count * components) room
   answers room h long =
       let same : length src ≡ length list = long ∙ mul_left_comm rows pixels components ∙ sym (length_exchanged 0 components some rows pixels src) in
-      answer-of s (length src) components rows (pixels * components) first count room h
+      answer_of s (length src) components rows (pixels * components) first count room h
       ∙ ap (λ (n : ℕ). passed_u16 s n (rows * components) (first * components) (count * components) room) same
 
   module _ (old : List ℕ) (lines : s.set.layout.lines ≡ pixels) (done : passed_sideways s (length src) components rows (pixels * components) first count (length old) ≡ Done) where
     fits : Shaped s.set (length src) (rows * components) (first * components) (count * components) (length old)
     fits =
-        let t = done-sideways s (length src) components rows (pixels * components) first count (length old) done in
-        tests-shaped store32 s (length src) (rows * components) (first * components) (count * components) (length old) (tests-u16 s (length src) (rows * components) (first * components) (count * components) (length old) t.vertical)
+        let t = done_sideways s (length src) components rows (pixels * components) first count (length old) done in
+        tests_shaped store32 s (length src) (rows * components) (first * components) (count * components) (length old) (tests_u16 s (length src) (rows * components) (first * components) (count * components) (length old) t.vertical)
 
     inside : (i : ℕ) → i < windows s.set.layout → start s.set.layout i + size s.set.layout i ≤ pixels
     inside i l = omega (arith, fits.set.ends i l, lines)
@@ -91,7 +91,7 @@ module _ (s : Stored) (src : List ℕ) (components rows pixels first count : ℕ
     long = fits.whole ∙ ap (λ (n : ℕ). n * (rows * components)) lines ∙ mul_left_comm pixels rows components
 
     vertical_done : passed_u16 s (length list) (rows * components) (first * components) (count * components) (length old) ≡ Done
-    vertical_done = sym (answers (length old) (done-sideways s (length src) components rows (pixels * components) first count (length old) done).pixels long) ∙ done
+    vertical_done = sym (answers (length old) (done_sideways s (length src) components rows (pixels * components) first count (length old) done).pixels long) ∙ done
 
     both : (exchanged 0 components count (windows s.set.layout * components) (written_sideways s src components rows (pixels * components) first count old) ≡ written_u16 s list (rows * components) (first * components) (count * components) old)
         × (written_sideways s src components rows (pixels * components) first count old ≡ exchanged 0 components (windows s.set.layout) (count * components) (written_u16 s list (rows * components) (first * components) (count * components) old))
@@ -103,7 +103,7 @@ module _ (s : Stored) (src : List ℕ) (components rows pixels first count : ℕ
 
 pub sideways_answers : SidewaysAnswers
 sideways_answers s src components rows row first count room h long =
-    let p = pixels-fit components row h in
+    let p = pixels_fit components row h in
     let some : 0 < components = omega (arith, p.few) in
     subst
     (λ (r : ℕ). bad_pixels components r ≡ false → length src ≡ rows * r → passed_sideways s (length src) components rows r first count room ≡ passed_u16 s (length (exchanged 0 components rows r src)) (rows * components) (first * components) (count * components) room)
@@ -111,8 +111,8 @@ sideways_answers s src components rows row first count room h long =
 
 pub sideways_is_vertical : SidewaysIsVertical
 sideways_is_vertical s src components rows row first count old lines done =
-    let t = done-sideways s (length src) components rows row first count (length old) done in
-    let p = pixels-fit components row t.pixels in
+    let t = done_sideways s (length src) components rows row first count (length old) done in
+    let p = pixels_fit components row t.pixels in
     let some : 0 < components = omega (arith, p.few) in
     subst
     (λ (r : ℕ). passed_sideways s (length src) components rows r first count (length old) ≡ Done
@@ -131,14 +131,14 @@ range_done : (s : Stored) (samples components rows row room : ℕ) → passed_si
     → (first count room₂ : ℕ) → first + count ≤ rows → room₂ ≡ count * (windows s.set.layout * components) → passed_sideways s samples components rows row first count room₂ ≡ Done
 unfolding passed_sideways passed_u16
 range_done s samples components rows row room done first count room₂ fit rooms =
-    let d = done-sideways s samples components rows row 0 rows room done in
-    let t = tests-u16 s samples (rows * components) (0 * components) (rows * components) room d.vertical in
+    let d = done_sideways s samples components rows row 0 rows room done in
+    let t = tests_u16 s samples (rows * components) (0 * components) (rows * components) room d.vertical in
     let l : first * components + count * components ≤ rows * components = omega (arith, add-mul first count components, mul-le-mul_right components fit) in
     rw (
       d.pixels,
       t.size,
       t.stored,
-      same-frame s.set samples (rows * components) (0 * components) (rows * components) room (first * components) (count * components) room₂ l (rooms ∙ mul_left_comm count (windows s.set.layout) components) t.area,
+      same_frame s.set samples (rows * components) (0 * components) (rows * components) room (first * components) (count * components) room₂ l (rooms ∙ mul_left_comm count (windows s.set.layout) components) t.area,
     )
 
 pub rows_cut_u16 : RowsCut

@@ -1,11 +1,11 @@
 -- From what the tests of `horiz_convolution_u16` said to what the worker asks, and to its two clauses. Cited by its proof. Assumes nothing.
-use mathlib.Core.Path.{◌≡◌, refl, sym, ap, ◌∙◌}
+use mathlib.Core.Path.{◌≡◌, refl, ap, ◌∙◌}
 use mathlib.Core.Bool.{Bool, true, false, ◌||◌}
 use mathlib.Core.List.{List}
 use Prim.Native.Nat.{ℕ, ◌+◌, ◌*◌, ◌/◌, ◌%◌, ◌^◌, ◌≤◌, ◌<◌}
-use native.Mathlib.Nat.{mul-le-mul, mul-le-mul_right, mul_left_comm, le_of_mul-le-mul_right, le-mul_of_pos_right, mod-lt, div-lt_iff_lt-mul, add-mul, mul-add-div_right, mul-add-mod_self_right, mod-eq_of_lt, div-eq_of_lt}
+use native.Mathlib.Nat.{mul-le-mul, mul-le-mul_right, mul_left_comm, le_of_mul-le-mul_right, le-mul_of_pos_right, mod-lt, add-mul, mul-add-div_right, mul-add-mod_self_right, mod-eq_of_lt, div-eq_of_lt}
 use native.Mathlib.Omega.{arith}
-use lib.IntN.{ℤ, pos}
+use lib.IntN.{pos}
 use lib.ListN.{length, get_or}
 use Rattle.lists.specs.Tab.{tab, grid}
 use Rattle.lists.specs.Ranges.{bad_sides_value, outside}
@@ -15,7 +15,7 @@ use Rattle.integers.proofs.Sums.{total_ext}
 use Rattle.refusal.specs.declared.Refusal.TheVariants.{BadSide, DoesNotFit}
 use Rattle.windows.specs.Set.{Stored, windows, start, size, weight, sample}
 use Rattle.windows.specs.Store.{store32}
-use Rattle.windows.specs.Fit.{badStored}
+use Rattle.windows.specs.Fit.{bad_stored}
 use Rattle.windows.proofs.Fits.{fits_most}
 use Rattle.vertical.specs.declared.Passed.{Passed}
 use Rattle.vertical.specs.declared.Passed.TheVariants.{Done, Refused}
@@ -23,11 +23,11 @@ use Rattle.vertical.specs.Column.{window_value}
 use Rattle.vertical.specs.Frame.{frame, bad_size, bad_area}
 use Rattle.vertical.specs.Ready.{Ready}
 use Rattle.vertical.specs.U16.{value_at, passed_u16}
-use Rattle.vertical.proofs.Answers.{Shaped, Tests, tests-shaped}
+use Rattle.vertical.proofs.Answers.{Shaped, Tests, tests_shaped}
 use Rattle.vertical.proofs.Values.{value_is}
-use Rattle.sideways.specs.Exchange.{turned, side_output}
+use Rattle.sideways.specs.Exchange.{turned}
 use Rattle.sideways.specs.Sideways.{bad_pixels, passed_sideways, written_sideways}
-use Rattle.sideways.proofs.Answers.{Pixels, pixels-fit}
+use Rattle.sideways.proofs.Answers.{Pixels, pixels_fit}
 use Rattle.sideways.proofs.FrameLaws.{frame_ext}
 use Rattle.pixels_u16.specs.Places.{row_values}
 
@@ -65,7 +65,7 @@ module _ (s : Stored) (src : List ℕ) (components rows row first count : ℕ) (
     size_good = or_right (bad_pixels components row) sizes good
 
     pub whole_pixels : Pixels components row
-    whole_pixels = pixels-fit components row pixels
+    whole_pixels = pixels_fit components row pixels
 
     pub few_rows : (1 ≤ components) × (components ≤ 4) × (rows ≤ 32768)
     few_rows =
@@ -73,18 +73,18 @@ module _ (s : Stored) (src : List ℕ) (components rows row first count : ℕ) (
         let wide = not_outside 1 32768 (rows * components) (or_right (bad_sides_value s.set.layout.lines (windows s.set.layout)) (outside 1 32768 (rows * components)) size_good) in
         (p.least, p.most, omega (arith, wide, le-mul_of_pos_right rows p.least))
 
-    pub bad_stored : badStored s store32 ≡ true → Meets (Refused DoesNotFit) old
+    pub bad_stored_fact : bad_stored s store32 ≡ true → Meets (Refused DoesNotFit) old
     unfolding passed_sideways written_sideways passed_u16
-    bad_stored stored = (rw (pixels, size_good, stored), rw (pixels, size_good, stored))
+    bad_stored_fact stored = (rw (pixels, size_good, stored), rw (pixels, size_good, stored))
 
-    pub bad_area_fact : badStored s store32 ≡ false → area ≡ true → Meets (Refused DoesNotFit) old
+    pub bad_area_fact : bad_stored s store32 ≡ false → area ≡ true → Meets (Refused DoesNotFit) old
     unfolding passed_sideways written_sideways passed_u16
     bad_area_fact stored rest = (rw (pixels, size_good, stored, rest), rw (pixels, size_good, stored, rest))
 
     -- all tests failed
     module _ (lines : s.set.layout.lines ≡ row / components) (t : Tests store32 s (length src) (rows * components) (first * components) (count * components) (length old)) where
       fits : Shaped s.set (length src) (rows * components) (first * components) (count * components) (length old)
-      fits = tests-shaped store32 s (length src) (rows * components) (first * components) (count * components) (length old) t
+      fits = tests_shaped store32 s (length src) (rows * components) (first * components) (count * components) (length old) t
 
       inside : (i : ℕ) → i < windows s.set.layout → start s.set.layout i + size s.set.layout i ≤ row / components
       inside i l = omega (arith, fits.set.ends i l, lines)

@@ -16,7 +16,7 @@ use refusal::Refusal;
 use vertical::Passed;
 
 // A frame of pixels, row after row, and the rows of it that are asked for.
-#[derive(Drop)]
+#[derive(Clone, Copy)]
 pub struct PixelFrame {
     // samples of a pixel, one to four
     pub components: u32,

@@ -14,7 +14,7 @@ use Rattle.refusal.specs.declared.Refusal.{Refusal}
 use Rattle.windows.specs.Set.{Set, Stored, windows}
 use Rattle.windows.specs.declared.Store.{Store}
 use Rattle.windows.specs.Store.{store32, bad_precision}
-use Rattle.windows.specs.Fit.{badSet, badExcesses, badStored, Fits}
+use Rattle.windows.specs.Fit.{bad_set, bad_excesses, bad_stored, Fits}
 use Rattle.windows.proofs.Fits.{fits}
 use Rattle.vertical.specs.declared.Passed.{Passed}
 use Rattle.vertical.specs.declared.Passed.TheVariants as passed
@@ -22,7 +22,7 @@ use Rattle.vertical.specs.declared.PassedF32.{PassedF32}
 use Rattle.vertical.specs.declared.PassedF32.TheVariants as passed-f32
 use Rattle.vertical.specs.Frame.{bad_frame, bad_range, bad_area, bad_size, bad_shape}
 use Rattle.vertical.specs.U16.{passed_u16}
-use Rattle.vertical.specs.F32.{passedF32, bad_weights, badSamples}
+use Rattle.vertical.specs.F32.{passed_f32, bad_weights, bad_samples}
 
 -- a refusal is not done
 abbrev done : Passed → Bool
@@ -32,12 +32,12 @@ done (passed.Refused r) = false
 pub refused : {r : Refusal} → passed.Refused r ≡ passed.Done → ⊥
 refused h = never (sym (ap done h))
 
-abbrev done-f32 : PassedF32 → Bool
-done-f32 (passed-f32.Done n) = true
-done-f32 (passed-f32.Refused r) = false
+abbrev done_f32 : PassedF32 → Bool
+done_f32 (passed-f32.Done n) = true
+done_f32 (passed-f32.Refused r) = false
 
-refused-f32 : {r : Refusal} {n : ℕ} → passed-f32.Refused r ≡ passed-f32.Done n → ⊥
-refused-f32 h = never (sym (ap done-f32 h))
+refused_f32 : {r : Refusal} {n : ℕ} → passed-f32.Refused r ≡ passed-f32.Done n → ⊥
+refused_f32 h = never (sym (ap done_f32 h))
 
 -- sides, set, frame and columns fit: neither pass refuses for these
 pub record Shaped {W : Type 0} (s : Set W) (samples row first count room : ℕ) : Type 0 where
@@ -49,7 +49,7 @@ pub record Shaped {W : Type 0} (s : Set W) (samples row first count room : ℕ) 
 
 module _ {W : Type 0} (s : Set W) (samples row first count room : ℕ) where
   abbrev set : Bool
-  set = badSet s.layout (length s.weights)
+  set = bad_set s.layout (length s.weights)
 
   abbrev frame : Bool
   frame = bad_frame samples s.layout.lines row
@@ -75,36 +75,36 @@ module _ {W : Type 0} (s : Set W) (samples row first count room : ℕ) where
 
   -- another range of columns that fits
   module _ (first₂ count₂ room₂ : ℕ) (fit : first₂ + count₂ ≤ row) (rooms : room₂ ≡ windows s.layout * count₂) where
-    pub same-frame : frame || range ≡ false → bad_area s.layout.lines (windows s.layout) samples row first₂ count₂ room₂ ≡ false
-    same-frame area = rw (or_left frame range area, le-ltb row (first₂ + count₂) fit, eq-eqb room₂ (windows s.layout * count₂) rooms)
+    pub same_frame : frame || range ≡ false → bad_area s.layout.lines (windows s.layout) samples row first₂ count₂ room₂ ≡ false
+    same_frame area = rw (or_left frame range area, le-ltb row (first₂ + count₂) fit, eq-eqb room₂ (windows s.layout * count₂) rooms)
 
   pub reshaped : bad_shape s.layout (length s.weights) samples row first count room ≡ false → (first₂ count₂ room₂ : ℕ) → first₂ + count₂ ≤ row → room₂ ≡ windows s.layout * count₂ → bad_shape s.layout (length s.weights) samples row first₂ count₂ room₂ ≡ false
   reshaped shape first₂ count₂ room₂ fit rooms =
-      rw (or_left set (frame || range) shape) (same-frame first₂ count₂ room₂ fit rooms (or_right set (frame || range) shape))
+      rw (or_left set (frame || range) shape) (same_frame first₂ count₂ room₂ fit rooms (or_right set (frame || range) shape))
 
 -- the tests that the passes over integers share failed: sides and row, the stored set, frame and columns
 pub record Tests (store : Store) (s : Stored) (samples row first count room : ℕ) : Type 0 where
   pub size : bad_size s.set.layout.lines (windows s.set.layout) row ≡ false
-  pub stored : badStored s store ≡ false
+  pub stored : bad_stored s store ≡ false
   pub area : bad_area s.set.layout.lines (windows s.set.layout) samples row first count room ≡ false
 
 module _ (store : Store) (s : Stored) where
   abbrev layout : Bool
-  layout = badSet s.set.layout (length s.set.weights)
+  layout = bad_set s.set.layout (length s.set.weights)
 
   -- the windows of a stored set that fits
-  stored-set : badStored s store ≡ false → layout ≡ false
-  stored-set h = or_left layout (bad_precision store s.precision) (or_left (layout || bad_precision store s.precision) (badExcesses s) h)
+  stored_set : bad_stored s store ≡ false → layout ≡ false
+  stored_set h = or_left layout (bad_precision store s.precision) (or_left (layout || bad_precision store s.precision) (bad_excesses s) h)
 
-  pub tests-shaped : (samples row first count room : ℕ) → Tests store s samples row first count room → Shaped s.set samples row first count room
-  tests-shaped samples row first count room t = shaped_of s.set samples row first count room t.size (stored-set t.stored) t.area
+  pub tests_shaped : (samples row first count room : ℕ) → Tests store s samples row first count room → Shaped s.set samples row first count room
+  tests_shaped samples row first count room t = shaped_of s.set samples row first count room t.size (stored_set t.stored) t.area
 
 -- each test of the u16 pass failed
-pub tests-u16 : (s : Stored) (samples row first count room : ℕ) → passed_u16 s samples row first count room ≡ passed.Done → Tests store32 s samples row first count room
+pub tests_u16 : (s : Stored) (samples row first count room : ℕ) → passed_u16 s samples row first count room ≡ passed.Done → Tests store32 s samples row first count room
 unfolding passed_u16
-tests-u16 s samples row first count room h =
+tests_u16 s samples row first count room h =
     let size = ladder (bad_size s.set.layout.lines (windows s.set.layout) row) refused h in
-    let stored = ladder (badStored s store32) refused size.1 in
+    let stored = ladder (bad_stored s store32) refused size.1 in
     let area = ladder (bad_area s.set.layout.lines (windows s.set.layout) samples row first count room) refused stored.1 in
     record { size = size.0; stored = stored.0; area = area.0 }
 
@@ -113,13 +113,13 @@ pub record TestsF32 (s : Set Float) (src : List Float) (row first count room : �
   pub size : bad_size s.layout.lines (windows s.layout) row ≡ false
   pub shape : bad_shape s.layout (length s.weights) (length src) row first count room ≡ false
   pub weights : bad_weights s ≡ false
-  pub samples : badSamples s src row first count ≡ false
+  pub samples : bad_samples s src row first count ≡ false
 
-pub tests-f32 : (s : Set Float) (src : List Float) (row first count room : ℕ) {n : ℕ} → passedF32 s src row first count room ≡ passed-f32.Done n → TestsF32 s src row first count room
-unfolding passedF32
-tests-f32 s src row first count room h =
-    let size = ladder (bad_size s.layout.lines (windows s.layout) row) refused-f32 h in
-    let shape = ladder (bad_shape s.layout (length s.weights) (length src) row first count room) refused-f32 size.1 in
-    let weights = ladder (bad_weights s) refused-f32 shape.1 in
-    let samples = ladder (badSamples s src row first count) refused-f32 weights.1 in
+pub tests_f32 : (s : Set Float) (src : List Float) (row first count room : ℕ) {n : ℕ} → passed_f32 s src row first count room ≡ passed-f32.Done n → TestsF32 s src row first count room
+unfolding passed_f32
+tests_f32 s src row first count room h =
+    let size = ladder (bad_size s.layout.lines (windows s.layout) row) refused_f32 h in
+    let shape = ladder (bad_shape s.layout (length s.weights) (length src) row first count room) refused_f32 size.1 in
+    let weights = ladder (bad_weights s) refused_f32 shape.1 in
+    let samples = ladder (bad_samples s src row first count) refused_f32 weights.1 in
     record { size = size.0; shape = shape.0; weights = weights.0; samples = samples.0 }

@@ -18,8 +18,8 @@ use Rattle.vertical.specs.declared.Passed.TheVariants.{Done}
 use Rattle.vertical.specs.declared.PassedF32.TheVariants.{Done as DoneF32}
 use Rattle.vertical.specs.Frame.{frame, output, columns}
 use Rattle.vertical.specs.U16.{value_at, passed_u16, written_u16}
-use Rattle.vertical.specs.F32.{value_f32, infinities, badLine, badSamples, passedF32, writtenF32}
-use Rattle.vertical.proofs.Answers.{same-frame, reshaped, tests-u16, tests-f32}
+use Rattle.vertical.specs.F32.{value_f32, infinities, bad_line, bad_samples, passed_f32, written_f32}
+use Rattle.vertical.proofs.Answers.{same_frame, reshaped, tests_u16, tests_f32}
 
 pub some_column : (windows count k : ℕ) → k < windows * count → 0 < count
 some_column windows zero k h = absurd (omega (arith, mul-zero windows))
@@ -45,8 +45,8 @@ module _ (s : Stored) (src : List ℕ) (row : ℕ) (whole : List ℕ) (done : pa
   range_done_u16 : passed_u16 s (length src) row first count (length list) ≡ Done
   unfolding passed_u16
   range_done_u16 =
-      let t = tests-u16 s (length src) row 0 row (length whole) done in
-      rw (t.size, t.stored, same-frame s.set (length src) row 0 row (length whole) first count (length list) fit rooms t.area)
+      let t = tests_u16 s (length src) row 0 row (length whole) done in
+      rw (t.size, t.stored, same_frame s.set (length src) row 0 row (length whole) first count (length list) fit rooms t.area)
 
   -- where the whole frame is not refused, a range of columns is not, and its output is those columns of the whole
   pub columns_cut_u16 : (passed_u16 s (length src) row first count (length list) ≡ Done) × (written_u16 s src row first count list ≡ columns 0 row (windows s.set.layout) first count (written_u16 s src row 0 row whole))
@@ -54,20 +54,20 @@ module _ (s : Stored) (src : List ℕ) (row : ℕ) (whole : List ℕ) (done : pa
   columns_cut_u16 = (range_done_u16, rw (range_done_u16, done) (columns_cut (value_at 65535 s (frame 0 src row)) 0 (windows s.set.layout) row first count fit))
 
 -- samples that are good over the whole row are good over the columns of a range
-samples : (s : Set Float) (src : List Float) (row first count : ℕ) → first + count ≤ row → badSamples s src row 0 row ≡ false → badSamples s src row first count ≡ false
+samples : (s : Set Float) (src : List Float) (row first count : ℕ) → first + count ≤ row → bad_samples s src row 0 row ≡ false → bad_samples s src row first count ≡ false
 samples s src row first count fit =
-    any_mono (λ i. any (size s.layout i) (badLine s src row 0 row i)) (λ i. any (size s.layout i) (badLine s src row first count i)) (windows s.layout)
-    (λ i l. any_mono (badLine s src row 0 row i) (badLine s src row first count i) (size s.layout i)
+    any_mono (λ i. any (size s.layout i) (bad_line s src row 0 row i)) (λ i. any (size s.layout i) (bad_line s src row first count i)) (windows s.layout)
+    (λ i l. any_mono (bad_line s src row 0 row i) (bad_line s src row first count i) (size s.layout i)
     (λ k l h. any_part (λ j. not (is_finite (sample s.layout (frame nan src row) i j k))) row first count fit (simp zero-add at h)))
 
-module _ (s : Set Float) (src : List Float) (row : ℕ) (whole : List Float) {n : ℕ} (done : passedF32 s src row 0 row (length whole) ≡ DoneF32 n)
+module _ (s : Set Float) (src : List Float) (row : ℕ) (whole : List Float) {n : ℕ} (done : passed_f32 s src row 0 row (length whole) ≡ DoneF32 n)
     (first count : ℕ) (list : List Float) (fit : first + count ≤ row) (rooms : length list ≡ windows s.layout * count) where
-  range_done_f32 : passedF32 s src row first count (length list) ≡ DoneF32 (infinities (output (value_f32 s (frame nan src row)) (windows s.layout) first count))
-  unfolding passedF32
+  range_done_f32 : passed_f32 s src row first count (length list) ≡ DoneF32 (infinities (output (value_f32 s (frame nan src row)) (windows s.layout) first count))
+  unfolding passed_f32
   range_done_f32 =
-      let t = tests-f32 s src row 0 row (length whole) done in
+      let t = tests_f32 s src row 0 row (length whole) done in
       rw (t.size, reshaped s (length src) row 0 row (length whole) t.shape first count (length list) fit rooms, t.weights, samples s src row first count fit t.samples)
 
-  pub columns_cut_f32 : (passedF32 s src row first count (length list) ≡ DoneF32 (infinities (output (value_f32 s (frame nan src row)) (windows s.layout) first count))) × (writtenF32 s src row first count list ≡ columns nan row (windows s.layout) first count (writtenF32 s src row 0 row whole))
-  unfolding writtenF32
+  pub columns_cut_f32 : (passed_f32 s src row first count (length list) ≡ DoneF32 (infinities (output (value_f32 s (frame nan src row)) (windows s.layout) first count))) × (written_f32 s src row first count list ≡ columns nan row (windows s.layout) first count (written_f32 s src row 0 row whole))
+  unfolding written_f32
   columns_cut_f32 = (range_done_f32, rw (range_done_f32, done) (columns_cut (value_f32 s (frame nan src row)) nan (windows s.layout) row first count fit))

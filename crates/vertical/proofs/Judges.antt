@@ -6,7 +6,7 @@ use Rattle.lists.specs.Ranges.{outside, bad_sides_value}
 use Rattle.lists.proofs.BoolLaws.{or_left, or_right, asked_bad, asked_good}
 use Rattle.windows.specs.declared.Store.{Store}
 use Rattle.windows.specs.Set.{Stored, windows}
-use Rattle.windows.specs.Fit.{badStored, unfit}
+use Rattle.windows.specs.Fit.{bad_stored, unfit}
 use Rattle.vertical.specs.Frame.{bad_size, bad_area}
 use Rattle.vertical.proofs.Answers.{Tests}
 
@@ -19,11 +19,11 @@ module _ (store : Store) (s : Stored) (row : ℕ) where
 
   -- the judge of a stored set looks at the sides too, which the pass has judged before
   module _ (good : size ≡ false) {r : Bool} (e : r ≡ not (unfit s store)) where
-    pub stored_bad : not r ≡ true → badStored s store ≡ true
+    pub stored_bad : not r ≡ true → bad_stored s store ≡ true
     stored_bad h = rw (or_left sides (outside 1 32768 row) good) at (asked_bad (unfit s store) e h)
 
-    pub stored_good : not r ≡ false → badStored s store ≡ false
-    stored_good h = or_right sides (badStored s store) (asked_good (unfit s store) e h)
+    pub stored_good : not r ≡ false → bad_stored s store ≡ false
+    stored_good h = or_right sides (bad_stored s store) (asked_good (unfit s store) e h)
 
   -- all three were asked, and none refused
   module _ (samples first count room : ℕ) {r₁ r₂ r₃ : Bool} where

@@ -10,4 +10,5 @@ pub mod ColumnLaws
 pub mod ReadBack
 pub mod Table
 pub mod Sure
+pub mod Tests
 pub mod Rows

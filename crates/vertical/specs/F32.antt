@@ -31,20 +31,20 @@ bad_weights s = any (windows s.layout) (λ i. any (size s.layout i) (bad_weight 
 
 module _ (s : Set Float) (src : List Float) (row first count : ℕ) where
   -- No. 12: a sample in use that is not finite, on line k of window i
-  abbrev pub badLine : ℕ → ℕ → Bool
-  badLine i k = any count (λ j. not (is_finite (sample s.layout (frame nan src row) i (first + j) k)))
+  abbrev pub bad_line : ℕ → ℕ → Bool
+  bad_line i k = any count (λ j. not (is_finite (sample s.layout (frame nan src row) i (first + j) k)))
 
-  abbrev pub badSamples : Bool
-  badSamples = any (windows s.layout) (λ i. any (size s.layout i) (badLine i))
+  abbrev pub bad_samples : Bool
+  bad_samples = any (windows s.layout) (λ i. any (size s.layout i) (bad_line i))
 
   -- the answer, where the output has room for so many samples; beside a done one, how many samples of the output are infinite
-  unfoldable pub passedF32 : ℕ → PassedF32
-  passedF32 room =
+  unfoldable pub passed_f32 : ℕ → PassedF32
+  passed_f32 room =
       cond (bad_size s.layout.lines (windows s.layout) row) (Refused BadSide)
       (cond (bad_shape s.layout (length s.weights) (length src) row first count room) (Refused DoesNotFit)
       (cond (bad_weights s) (Refused SampleOutside)
-      (cond badSamples (Refused SampleOutside)
+      (cond bad_samples (Refused SampleOutside)
       (Done (infinities (output (value_f32 s (frame nan src row)) (windows s.layout) first count))))))
 
-  unfoldable pub writtenF32 : List Float → List Float
-  writtenF32 old = after (passedF32 (length old)) (output (value_f32 s (frame nan src row)) (windows s.layout) first count) old
+  unfoldable pub written_f32 : List Float → List Float
+  written_f32 old = after (passed_f32 (length old)) (output (value_f32 s (frame nan src row)) (windows s.layout) first count) old

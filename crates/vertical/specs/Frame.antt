@@ -4,7 +4,7 @@ use Rattle.std.specs.Prelude.{Bool, not, ◌||◌, List, ℕ, ◌+◌, ◌*◌, 
 use Rattle.lists.specs.Ranges.{outside, bad_sides_value}
 use Rattle.lists.specs.Tab.{tab, grid}
 use Rattle.windows.specs.Set.{Layout, windows}
-use Rattle.windows.specs.Fit.{badSet}
+use Rattle.windows.specs.Fit.{bad_set}
 
 -- the sample of a camera line at a column, where the lines stand one after the other in rows of `row` samples; d stands for a sample that is not there
 abbrev pub frame : {A : Type 0} → A → List A → ℕ → ℕ → ℕ → A
@@ -40,4 +40,4 @@ bad_area lines windows samples row first count room = bad_frame samples lines ro
 
 -- No. 10 of the f32 pass: the set, or the frame and the columns
 abbrev pub bad_shape : Layout → ℕ → ℕ → ℕ → ℕ → ℕ → ℕ → Bool
-bad_shape l slots samples row first count room = badSet l slots || bad_area l.lines (windows l) samples row first count room
+bad_shape l slots samples row first count room = bad_set l slots || bad_area l.lines (windows l) samples row first count room

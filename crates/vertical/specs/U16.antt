@@ -5,7 +5,7 @@ use Rattle.refusal.specs.declared.Refusal.TheVariants.{BadSide, DoesNotFit}
 use Rattle.integers.specs.Sums.{value}
 use Rattle.windows.specs.Set.{Stored, windows, size, weight, sample, distance_of}
 use Rattle.windows.specs.Store.{store32}
-use Rattle.windows.specs.Fit.{badStored}
+use Rattle.windows.specs.Fit.{bad_stored}
 use Rattle.vertical.specs.declared.Passed.{Passed}
 use Rattle.vertical.specs.declared.Passed.TheVariants.{Done, Refused}
 use Rattle.vertical.specs.Passed.{after}
@@ -23,7 +23,7 @@ keeps_flat M s i = ltb (2 * M * distance_of s i) (2 ^ s.precision)
 unfoldable pub passed_u16 : Stored → ℕ → ℕ → ℕ → ℕ → ℕ → Passed
 passed_u16 s samples row first count room =
     cond (bad_size s.set.layout.lines (windows s.set.layout) row) (Refused BadSide)
-    (cond (badStored s store32) (Refused DoesNotFit)
+    (cond (bad_stored s store32) (Refused DoesNotFit)
     (cond (bad_area s.set.layout.lines (windows s.set.layout) samples row first count room) (Refused DoesNotFit)
     Done))
 

@@ -13,7 +13,7 @@ use refusal::Refusal;
 use windows::{fills, set_fits, sides_fit};
 
 // A frame of samples, line after line, and the columns of it that are asked for.
-#[derive(Drop)]
+#[derive(Clone, Copy)]
 pub struct Frame {
     // camera lines
     pub lines: u32,
@@ -33,7 +33,7 @@ pub enum Passed {
     Refused(Refusal),
 }
 
-#[derive(Drop)]
+#[derive(Clone, Copy)]
 pub enum PassedF32 {
     // 0: every window's row is written; how many samples of them are infinite
     Done(u32),

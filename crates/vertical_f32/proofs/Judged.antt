@@ -14,7 +14,7 @@ use Rattle.windows.specs.Set.{Set, windows}
 use Rattle.vertical.specs.declared.PassedF32.{PassedF32}
 use Rattle.vertical.specs.declared.PassedF32.TheVariants.{Done, Refused}
 use Rattle.vertical.specs.Frame.{frame, output, bad_size, bad_shape}
-use Rattle.vertical.specs.F32.{value_f32, infinities, bad_weights, badSamples, passedF32, writtenF32}
+use Rattle.vertical.specs.F32.{value_f32, infinities, bad_weights, bad_samples, passed_f32, written_f32}
 use Rattle.vertical.proofs.Answers.{shaped}
 use Rattle.vertical.proofs.Columns.{some_column}
 use Rattle.vertical.proofs.Turns.{output_is}
@@ -39,27 +39,27 @@ all_finite value n count new long each small k h =
 module _ (s : Set Float) (src : List Float) (row first count : ℕ) (old : List Float) where
   -- the answer r with the list `new` is what the two clauses say
   abbrev pub Meets : PassedF32 → List Float → Type 0
-  Meets r new = (r ≡ passedF32 s src row first count (length old)) × (new ≡ writtenF32 s src row first count old)
+  Meets r new = (r ≡ passed_f32 s src row first count (length old)) × (new ≡ written_f32 s src row first count old)
 
   pub bad_size_fact : bad_size s.layout.lines (windows s.layout) row ≡ true → Meets (Refused BadSide) old
-  unfolding passedF32 writtenF32
+  unfolding passed_f32 written_f32
   bad_size_fact size = (rw size, rw size)
 
   pub bad_shape_fact : bad_size s.layout.lines (windows s.layout) row ≡ false → bad_shape s.layout (length s.weights) (length src) row first count (length old) ≡ true → Meets (Refused DoesNotFit) old
-  unfolding passedF32 writtenF32
+  unfolding passed_f32 written_f32
   bad_shape_fact size shape = (rw (size, shape), rw (size, shape))
 
   module _ (size : bad_size s.layout.lines (windows s.layout) row ≡ false) (shape : bad_shape s.layout (length s.weights) (length src) row first count (length old) ≡ false) where
     pub bad_weights_fact : bad_weights s ≡ true → Meets (Refused SampleOutside) old
-    unfolding passedF32 writtenF32
+    unfolding passed_f32 written_f32
     bad_weights_fact weights = (rw (size, shape, weights), rw (size, shape, weights))
 
-    pub bad_samples : bad_weights s ≡ false → badSamples s src row first count ≡ true → Meets (Refused SampleOutside) old
-    unfolding passedF32 writtenF32
-    bad_samples weights samples = (rw (size, shape, weights, samples), rw (size, shape, weights, samples))
+    pub bad_samples_fact : bad_weights s ≡ false → bad_samples s src row first count ≡ true → Meets (Refused SampleOutside) old
+    unfolding passed_f32 written_f32
+    bad_samples_fact weights samples = (rw (size, shape, weights, samples), rw (size, shape, weights, samples))
 
-    pub done : bad_weights s ≡ false → badSamples s src row first count ≡ false → (new : List Float) → length new ≡ length old → ((i : ℕ) → i < windows s.layout → (j : ℕ) → j < count → get_or new (i * count + j) nan ≡ window_value src row first s.layout.starts s.layout.sizes s.layout.window_size_value s.weights i j) → Meets (Done (infinities new)) new
-    unfolding passedF32 writtenF32
+    pub done : bad_weights s ≡ false → bad_samples s src row first count ≡ false → (new : List Float) → length new ≡ length old → ((i : ℕ) → i < windows s.layout → (j : ℕ) → j < count → get_or new (i * count + j) nan ≡ window_value src row first s.layout.starts s.layout.sizes s.layout.window_size_value s.weights i j) → Meets (Done (infinities new)) new
+    unfolding passed_f32 written_f32
     done weights samples new long each =
         let rooms = (shaped s (length src) row first count (length old) size shape).rooms in
         let is : new ≡ output (value_f32 s (frame nan src row)) (windows s.layout) first count =

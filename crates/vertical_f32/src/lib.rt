@@ -1,4 +1,4 @@
-// `vertical_f32`: the vertical pass over f32 samples with f64 weights, as `passedF32` and `writtenF32` of `vertical` say. Counterpart of vertical_f32/native.rs.
+// `vertical_f32`: the vertical pass over f32 samples with f64 weights, as `passed_f32` and `written_f32` of `vertical` say. Counterpart of vertical_f32/native.rs.
 // Everything is judged before anything is written: sizes and shape by `vertical`, the weights in use, then each camera line in use, once.
 #![tactic(auto)]
 
@@ -6,7 +6,7 @@ mod rows;
 
 ghost use Rattle.std.specs.Prelude.{◌≡◌, length};
 ghost use Rattle.windows.specs.Set.{layout_of, set_of};
-ghost use Rattle.vertical.specs.F32.{passedF32, writtenF32};
+ghost use Rattle.vertical.specs.F32.{passed_f32, written_f32};
 
 use finite_f32::{counted, samples_fit, weights_fit};
 use refusal::Refusal;
@@ -23,8 +23,8 @@ pub fn vert_convolution_f32(
     window_size: u32,
     out: &mut [f32],
 ) -> PassedF32
-    ensures answer { result ≡ passedF32 (set_of (layout_of frame.lines window_size starts.now sizes.now) weights.now) src.now frame.row frame.first frame.count (length out.old) }
-    ensures written { out.new ≡ writtenF32 (set_of (layout_of frame.lines window_size starts.now sizes.now) weights.now) src.now frame.row frame.first frame.count out.old }
+    ensures answer { result ≡ passed_f32 (set_of (layout_of frame.lines window_size starts.now sizes.now) weights.now) src.now frame.row frame.first frame.count (length out.old) }
+    ensures written { out.new ≡ written_f32 (set_of (layout_of frame.lines window_size starts.now sizes.now) weights.now) src.now frame.row frame.first frame.count out.old }
 {
     if !size_fits(frame, starts.len()) {
         return PassedF32::Refused(Refusal::BadSide);

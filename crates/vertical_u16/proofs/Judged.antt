@@ -8,7 +8,7 @@ use Rattle.lists.specs.Tab.{tab, grid}
 use Rattle.refusal.specs.declared.Refusal.TheVariants.{BadSide, DoesNotFit}
 use Rattle.windows.specs.Set.{Stored, windows}
 use Rattle.windows.specs.Store.{store32}
-use Rattle.windows.specs.Fit.{badStored}
+use Rattle.windows.specs.Fit.{bad_stored}
 use Rattle.vertical.specs.declared.Passed.{Passed}
 use Rattle.vertical.specs.declared.Passed.TheVariants.{Done, Refused}
 use Rattle.vertical.specs.Frame.{bad_size, bad_area}
@@ -27,11 +27,11 @@ module _ (s : Stored) (src : List ℕ) (row first count : ℕ) (old : List ℕ) 
   bad_size_fact size = (rw size, rw size)
 
   module _ (size : bad_size s.set.layout.lines (windows s.set.layout) row ≡ false) where
-    pub bad_stored : badStored s store32 ≡ true → Meets (Refused DoesNotFit) old
+    pub bad_stored_fact : bad_stored s store32 ≡ true → Meets (Refused DoesNotFit) old
     unfolding passed_u16 written_u16
-    bad_stored stored = (rw (size, stored), rw (size, stored))
+    bad_stored_fact stored = (rw (size, stored), rw (size, stored))
 
-    pub bad_area_fact : badStored s store32 ≡ false → bad_area s.set.layout.lines (windows s.set.layout) (length src) row first count (length old) ≡ true → Meets (Refused DoesNotFit) old
+    pub bad_area_fact : bad_stored s store32 ≡ false → bad_area s.set.layout.lines (windows s.set.layout) (length src) row first count (length old) ≡ true → Meets (Refused DoesNotFit) old
     unfolding passed_u16 written_u16
     bad_area_fact stored area = (rw (size, stored, area), rw (size, stored, area))
 

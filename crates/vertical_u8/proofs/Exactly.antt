@@ -9,7 +9,7 @@ use Rattle.lists.proofs.LadderLaws.{exactly_due}
 use Rattle.refusal.specs.declared.Refusal.TheVariants.{BadSide, DoesNotFit, WeightOutside}
 use Rattle.windows.specs.Set.{Stored, windows}
 use Rattle.windows.specs.Store.{store16}
-use Rattle.windows.specs.Fit.{badStored}
+use Rattle.windows.specs.Fit.{bad_stored}
 use Rattle.vertical.specs.declared.Passed.TheVariants.{Done, Refused}
 use Rattle.vertical.specs.Passed.{number_of}
 use Rattle.vertical.specs.Frame.{bad_size, bad_area}
@@ -24,18 +24,18 @@ numbered false false false false = refl
 
 module _ (s : Stored) (samples row first count room : ℕ) where
   -- the tests in the order of judging, each with its number: sides and row; the stored set, frame and columns; weights
-  abbrev pub rowsU8 : List (Bool × ℕ)
-  rowsU8 =
+  abbrev pub rows_u8 : List (Bool × ℕ)
+  rows_u8 =
       (bad_size s.set.layout.lines (windows s.set.layout) row, 1)
-      ∷ (badStored s store16 || bad_area s.set.layout.lines (windows s.set.layout) samples row first count room, 10)
+      ∷ (bad_stored s store16 || bad_area s.set.layout.lines (windows s.set.layout) samples row first count room, 10)
       ∷ (heavy_windows s, 9)
       ∷ []
 
-  is : number_of (passed_u8 s samples row first count room) ≡ given rowsU8
+  is : number_of (passed_u8 s samples row first count room) ≡ given rows_u8
   unfolding passed_u8
   is =
       numbered (bad_size s.set.layout.lines (windows s.set.layout) row)
-      (badStored s store16) (bad_area s.set.layout.lines (windows s.set.layout) samples row first count room) (heavy_windows s)
+      (bad_stored s store16) (bad_area s.set.layout.lines (windows s.set.layout) samples row first count room) (heavy_windows s)
 
-  pub passed_u8_exactly : (n : ℕ) → Exactly (number_of (passed_u8 s samples row first count room) ≡ n) (Due n rowsU8)
-  passed_u8_exactly n = rw is (exactly_due n rowsU8 refl)
+  pub passed_u8_exactly : (n : ℕ) → Exactly (number_of (passed_u8 s samples row first count room) ≡ n) (Due n rows_u8)
+  passed_u8_exactly n = rw is (exactly_due n rows_u8 refl)

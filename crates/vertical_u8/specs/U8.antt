@@ -5,7 +5,7 @@ use Rattle.lists.specs.Tab.{any}
 use Rattle.refusal.specs.declared.Refusal.TheVariants.{BadSide, DoesNotFit, WeightOutside}
 use Rattle.windows.specs.Set.{Stored, windows, size, weight}
 use Rattle.windows.specs.Store.{store16}
-use Rattle.windows.specs.Fit.{badStored}
+use Rattle.windows.specs.Fit.{bad_stored}
 use Rattle.vertical.specs.declared.Passed.{Passed}
 use Rattle.vertical.specs.declared.Passed.TheVariants.{Done, Refused}
 use Rattle.vertical.specs.Passed.{after}
@@ -28,7 +28,7 @@ heavy_windows s = any (windows s.set.layout) (heavy_at s)
 unfoldable pub passed_u8 : Stored → ℕ → ℕ → ℕ → ℕ → ℕ → Passed
 passed_u8 s samples row first count room =
     cond (bad_size s.set.layout.lines (windows s.set.layout) row) (Refused BadSide)
-    (cond (badStored s store16) (Refused DoesNotFit)
+    (cond (bad_stored s store16) (Refused DoesNotFit)
     (cond (bad_area s.set.layout.lines (windows s.set.layout) samples row first count room) (Refused DoesNotFit)
     (cond (heavy_windows s) (Refused WeightOutside)
     Done)))

@@ -1,0 +1,17 @@
+-- As for `zero16`: after t turns the first t lanes have their sample, the others are as they were. Assumes nothing.
+use mathlib.Core.Path.{◌≡◌}
+use Prim.Native.Nat.{ℕ, ◌-◌, ◌≤◌, ◌<◌, ◌+◌}
+use lib.Dec.{T}
+use lib.ListN.{length, get_or}
+use lib.Ieee.{binary32, nan, mul, fits}
+use Rattle.finite_f32.proofs.written.zero4.Given as goal
+
+abbrev pub invariant-loop-t : goal.invariant-loop-t
+invariant-loop-t l = (l.t ≤ 4)
+    × (length l.r ≡ 4)
+    × ((x : ℕ) → x < l.t → get_or l.r x nan ≡ mul binary32 (get_or l.initial.r x nan) (get_or l.ys (l.at + x) nan))
+    × ((x : ℕ) → x < l.t → T (fits binary32 (get_or l.ys (l.at + x) nan)))
+    × ((x : ℕ) → l.t ≤ x → get_or l.r x nan ≡ get_or l.initial.r x nan)
+
+abbrev pub decreases-loop-t : goal.decreases-loop-t
+decreases-loop-t l = 4 - l.t
