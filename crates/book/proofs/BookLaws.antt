@@ -16,7 +16,7 @@ use Rattle.book_numbers.specs.declared.Report.{Report}
 use Rattle.book_numbers.specs.Marks.{Mark, marks_of, numbers_of}
 use Rattle.book_numbers.specs.Joins.{join_of}
 use Rattle.book_numbers.proofs.JoinLaws.{join_numbers}
-use Rattle.book.specs.Book.{texts_of, AllGood, Split, all_marks, stopped_at, BookOf, FirstOf}
+use Rattle.book.specs.Book.{texts_of, AllGood, all_marks, BookOf, FirstOf}
 use Rattle.book.proofs.RunLaws.{texts_append, good_append, marks_append}
 use Rattle.book.proofs.SheetLaws.{sheet_windows, sheet_some}
 use Rattle.book.proofs.RestLaws.{stop_past, rest_longest, rest_ends, end_longest, end_ends, stopped_more}

@@ -1,7 +1,7 @@
 -- Two sheets, computed: the sheet of docs/RULES.md, whose windows have the excess 0, and one of the 16-bit store with the excesses -50 and 16. Its second window has one line, and
 -- a negative number in an idle slot, which does not count. Cited by nothing: it shows what the numbers are. Assumes nothing.
 use mathlib.Core.Path.{◌≡◌, refl}
-use mathlib.Core.List.{List, [], ◌∷◌}
+use mathlib.Core.List.{[], ◌∷◌}
 use lib.IntN.{pos, negsuc}
 use Rattle.filters.specs.declared.FilterType.TheVariants.{Box, Mitchell}
 use Rattle.integers.specs.Sums.{sum}

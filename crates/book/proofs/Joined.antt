@@ -1,17 +1,17 @@
 -- Two texts end to end, and no number that wraps. Cited by nothing here; whoever reads a book in parts rests on it. Assumes nothing.
-use mathlib.Core.Path.{◌≡◌, refl, sym, ap, ◌∙◌, subst}
+use mathlib.Core.Path.{◌≡◌, sym, ap, ◌∙◌, subst}
 use mathlib.Core.Bool.{true}
-use mathlib.Core.List.{List, [], ◌∷◌, ◌++◌, append_assoc, append-nil}
+use mathlib.Core.List.{List, [], ◌++◌, append_assoc, append-nil}
 use Prim.Native.Nat.{ℕ, ◌+◌, ◌^◌, ◌≤◌, ◌<◌}
 use native.Mathlib.Nat.{add-zero, add_assoc}
 use native.Mathlib.Omega.{arith}
 use lib.ListN.{length, length-append}
-use Rattle.sheet_scan.specs.Language.{Whole, Longest}
+use Rattle.sheet_scan.specs.Language.{Longest}
 use Rattle.book_numbers.specs.declared.Report.{Report}
-use Rattle.book_numbers.specs.Marks.{Mark, how_many, numbers_of}
+use Rattle.book_numbers.specs.Marks.{numbers_of}
 use Rattle.book_numbers.specs.Joins.{join_of}
 use Rattle.book_numbers.proofs.NumberLaws.{many_le}
-use Rattle.book.specs.Book.{texts_of, AllGood, Split, all_marks, stopped_at, BookOf}
+use Rattle.book.specs.Book.{texts_of, all_marks, stopped_at, BookOf}
 use Rattle.book.proofs.RunLaws.{texts_append, good_append}
 use Rattle.book.proofs.RestLaws.{not_stopped, end_right}
 use Rattle.book.proofs.BookLaws.{few_windows, few_sheets, runs_join}

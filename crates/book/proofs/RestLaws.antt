@@ -1,17 +1,16 @@
 -- The rest of a text, where the run of its sheets ends: at a place where no sheet is, or at its end. Cited by the laws of the report. Assumes nothing.
-use mathlib.Core.Path.{◌≡◌, refl, sym, ap, ◌∙◌}
+use mathlib.Core.Path.{◌≡◌, refl}
 use mathlib.Core.Bool.{true}
 use mathlib.Core.List.{List, [], ◌∷◌, ◌++◌}
-use Prim.Native.Nat.{ℕ, ◌+◌, ◌-◌, ◌≤◌, ◌<◌}
+use Prim.Native.Nat.{ℕ, ◌-◌, ◌≤◌}
 use native.Mathlib.Omega.{arith}
 use lib.Dec.{lit≤}
-use lib.ListN.{length, drop, length-append}
+use lib.ListN.{length, drop}
 use Rattle.filters.specs.declared.FilterType.TheVariants.{Box}
 use Rattle.refusal.specs.declared.Refusal.TheVariants.{NotASheet}
 use Rattle.refusal.specs.Refusal.{number_of}
-use Rattle.text.specs.Words.{common}
 use Rattle.sheet.specs.Text.{kind_text}
-use Rattle.scan.specs.Form.{Form, Found, Stopped}
+use Rattle.scan.specs.Form.{Form, Stopped}
 use Rattle.scan.proofs.FormLaws.{found_at, not_both}
 use Rattle.sheet_scan.specs.declared.Sizes.{Sizes}
 use Rattle.sheet_scan.specs.Language.{Whole, Longest, sheets}
@@ -19,7 +18,6 @@ use Rattle.sheet_scan.specs.Lines.{size_lines}
 use Rattle.sheet_scan.proofs.WholeLaws.{sheet_no_sizes}
 use Rattle.sheet_scan.proofs.LanguageLaws.{stopped_longest}
 use Rattle.book.specs.Book.{stopped_at}
-use Rattle.book.proofs.SheetLaws.{sheet_windows, sheet_some}
 
 -- no sheet begins the text
 abbrev pub NoSheet : List ℕ → Type 0

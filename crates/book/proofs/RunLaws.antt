@@ -1,10 +1,9 @@
 -- Runs of sheets, end to end: two runs one after the other, and that a text has one longest run. Cited by the loop over sheets and by the theorems. Assumes nothing.
 use mathlib.Core.Path.{◌≡◌, refl, sym, ap, ◌∙◌, subst}
 use mathlib.Core.Bool.{true}
-use mathlib.Core.List.{List, [], ◌∷◌, ◌++◌, append_assoc, append-nil}
-use Prim.Native.Nat.{ℕ, ◌+◌, ◌≤◌}
-use native.Mathlib.Omega.{arith}
-use lib.ListN.{length, drop, length-append}
+use mathlib.Core.List.{List, [], ◌∷◌, ◌++◌, append_assoc}
+use Prim.Native.Nat.{ℕ}
+use lib.ListN.{length, drop}
 use lib.Seq.{drop-append_seam}
 use Rattle.sheet_scan.specs.Language.{Whole, sheets}
 use Rattle.sheet_scan.proofs.WholeLaws.{apart_sheets}

@@ -1,10 +1,10 @@
 -- One sheet: it has a byte for each window and a window at least, and what is found of its lines is its report. Cited by `first_sheet` and by the loop over sheets.
 -- Assumes nothing.
-use mathlib.Core.Path.{◌≡◌, refl, sym, ap, ◌∙◌, subst}
+use mathlib.Core.Path.{◌≡◌, sym, ap, ◌∙◌, subst}
 use mathlib.Core.Bool.{true}
 use mathlib.Core.List.{List, [], ◌∷◌, ◌++◌}
-use mathlib.Core.Logic.{◌⊎◌, inl, inr}
-use Prim.Native.Nat.{ℕ, suc, ◌+◌, ◌-◌, ◌^◌, ◌≤◌, ◌<◌}
+use mathlib.Core.Logic.{inl, inr}
+use Prim.Native.Nat.{ℕ, suc, ◌-◌, ◌^◌, ◌≤◌, ◌<◌}
 use native.Mathlib.Nat.{add-zero}
 use native.Mathlib.Omega.{arith}
 use lib.ListN.{length, length-append}
@@ -15,7 +15,7 @@ use Rattle.refusal.specs.Refusal.{number_of}
 use Rattle.windows.specs.Set.{windows}
 use Rattle.sheet.specs.Text.{open_text}
 use Rattle.scan.specs.Form.{Form, Found, Stopped}
-use Rattle.scan.specs.Forms.{fixed, runText, RunGood}
+use Rattle.scan.specs.Forms.{fixed, run_text, RunGood}
 use Rattle.scan.proofs.RunText.{run_long}
 use Rattle.sheet_scan.specs.declared.Sizes.{Sizes}
 use Rattle.sheet_scan.specs.declared.StoreLines.{StoreLines}
@@ -34,9 +34,9 @@ use Rattle.book_windows.proofs.SetMarks.{marks_are}
 use Rattle.book.specs.Book.{FirstOf}
 
 -- pieces that all have a byte
-run_bytes : {A : Type 0} (F : ℕ → Form A) → ((i : ℕ) (a : A) → 1 ≤ length ((F i).text a)) → (i : ℕ) (l : List A) → length l ≤ length (runText F i l)
+run_bytes : {A : Type 0} (F : ℕ → Form A) → ((i : ℕ) (a : A) → 1 ≤ length ((F i).text a)) → (i : ℕ) (l : List A) → length l ≤ length (run_text F i l)
 run_bytes F some i [] = omega arith
-run_bytes F some i (a ∷ l) = omega (arith, some i a, run_bytes F some (suc i) l, length-append ((F i).text a) (runText F (suc i) l))
+run_bytes F some i (a ∷ l) = omega (arith, some i a, run_bytes F some (suc i) l, length-append ((F i).text a) (run_text F (suc i) l))
 
 -- a window's line begins with a w
 line_bytes : (lines window limit i : ℕ) (r : Row) → 1 ≤ length ((window_line lines window limit i).text r)
@@ -55,7 +55,7 @@ module _ (x : Whole) (good : (sheets true).Good x) where
       let store = (store_lines true).text (store_of x) in
       let tail = excess_line x.set.precision rows in
       let text = ap length (parts_text true x good.0) in
-      omega (arith, length-append head (store ++ (runText F 0 rows ++ tail)), length-append store (runText F 0 rows ++ tail), length-append (runText F 0 rows) tail)
+      omega (arith, length-append head (store ++ (run_text F 0 rows ++ tail)), length-append store (run_text F 0 rows ++ tail), length-append (run_text F 0 rows) tail)
 
   pub sheet_some : 1 ≤ length (marks_of x.set)
   sheet_some = let f = fit true x.bits x.set good.0 in omega (arith, f.some_window, length_tab 0 (windows x.set.set.layout) (mark_of x.set))

@@ -1,14 +1,14 @@
 -- The least and the most of a report are what they are called: each is the excess of one of its windows, and no window's excess is below the one or above the other. Cited by
 -- nothing: it shows that the definition is the paper's. Assumes nothing.
-use mathlib.Core.Path.{◌≡◌, refl, sym, ap, ◌∙◌}
+use mathlib.Core.Path.{◌≡◌, refl, sym, ◌∙◌}
 use mathlib.Core.Bool.{Bool, true, false, cond}
 use mathlib.Core.List.{List, [], ◌∷◌}
-use Prim.Native.Nat.{ℕ, zero, suc, ◌≤◌, ◌<◌}
+use Prim.Native.Nat.{ℕ, zero, suc, ◌<◌}
 use native.Mathlib.Omega.{arith}
 use lib.IntN.{ℤ}
 use lib.ListN.{length, get_or}
 use Rattle.lists.proofs.BoolLaws.{never}
-use Rattle.book_numbers.specs.Marks.{Mark, below, above, former, former_of, extreme}
+use Rattle.book_numbers.specs.Marks.{Mark, below, above, former, extreme}
 use Rattle.book_numbers.proofs.OrderLaws.{Order, below_order, above_order}
 
 -- e is the excess of one of the windows l, and no excess of theirs comes before it

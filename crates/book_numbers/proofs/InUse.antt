@@ -1,15 +1,13 @@
 -- Only weights in use count: what is asked of a window goes by its precision, its size and the weights below it, so that an idle slot may hold anything, a negative weight too.
 -- Cited by the windows that are counted from their lines. Assumes nothing.
-use mathlib.Core.Path.{◌≡◌, refl, sym, ap, ◌∙◌, subst}
-use mathlib.Core.Bool.{Bool, ◌||◌}
-use mathlib.Core.List.{List}
+use mathlib.Core.Path.{◌≡◌, refl, sym, ap, ◌∙◌}
 use Prim.Native.Nat.{ℕ, zero, suc, ◌+◌, ◌<◌}
 use native.Mathlib.Nat.{zero-add}
 use native.Mathlib.Omega.{arith}
 use lib.IntN.{ℤ, pos}
-use Rattle.lists.specs.Tab.{tab, any}
+use Rattle.lists.specs.Tab.{tab}
 use Rattle.lists.proofs.TabLaws.{tab_ext}
-use Rattle.orders.specs.Negative.{negative, some_negative_value}
+use Rattle.orders.specs.Negative.{some_negative_value}
 use Rattle.windows.specs.Set.{Stored, windows, size, weight, excess}
 use Rattle.excesses.proofs.SameExcess.{excess_ext}
 use Rattle.book_numbers.specs.Marks.{Mark, mark, mark_of, marks_of}

@@ -9,7 +9,7 @@ pub use joins::join;
 pub use marks::window_report;
 
 // The report. `stopped` is 0, or the number of the refusal that ended it; `byte` is up to where the text was right, which is its whole length where nothing stopped it.
-#[derive(Drop)]
+#[derive(Clone, Copy)]
 pub struct Report {
     pub sheets: u64,
     pub windows: u64,

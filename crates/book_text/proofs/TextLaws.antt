@@ -1,12 +1,11 @@
 -- The length of a report's text, and the two ways of its writer. Cited by `write_report`. Assumes nothing.
 use mathlib.Core.Path.{◌≡◌, refl, ap, ◌∙◌}
-use mathlib.Core.Bool.{cond}
 use mathlib.Core.List.{List}
-use Prim.Native.Nat.{ℕ, ◌+◌, ◌^◌, ◌≤◌, ◌<◌}
+use Prim.Native.Nat.{ℕ, ◌≤◌, ◌<◌}
 use native.Mathlib.Omega.{arith}
 use lib.ListN.{length, length-append}
 use borrow.Author.Tests.{lt-ltb, le-ltb}
-use Rattle.text.specs.Text.{over, laid, reached}
+use Rattle.text.specs.Text.{laid, reached}
 use Rattle.text.proofs.TextLaws.{reached_whole, line_small, laid_over}
 use Rattle.signed_lines.proofs.LineLaws.{number_small}
 use Rattle.refusal.specs.declared.Refusal.TheVariants.{NoRoom}

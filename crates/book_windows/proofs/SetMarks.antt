@@ -1,5 +1,5 @@
 -- The windows of the set that windows' lines say are the lines' own. Cited by the laws of a sheet's report. Assumes nothing.
-use mathlib.Core.Path.{◌≡◌, refl, sym, ap, ◌∙◌}
+use mathlib.Core.Path.{◌≡◌, sym, ap, ◌∙◌}
 use mathlib.Core.List.{List}
 use Prim.Native.Nat.{ℕ, ◌+◌, ◌<◌}
 use native.Mathlib.Nat.{zero-add}
@@ -8,12 +8,12 @@ use lib.IntN.{pos}
 use lib.ListN.{length}
 use Rattle.lists.specs.Tab.{tab}
 use Rattle.lists.proofs.TabLaws.{tab_ext}
-use Rattle.windows.specs.Set.{Stored, windows, size, weight}
+use Rattle.windows.specs.Set.{Stored, size, weight}
 use Rattle.scan.specs.Forms.{RunGood}
 use Rattle.sheet_scan.specs.Lines.{Row, window_line}
 use Rattle.sheet_scan.specs.Rows.{size_at, slot_at, set_of_rows}
 use Rattle.sheet_scan.proofs.SetLaws.{rows_say}
-use Rattle.book_numbers.specs.Marks.{Mark, mark_of, marks_of}
+use Rattle.book_numbers.specs.Marks.{mark_of, marks_of}
 use Rattle.book_numbers.proofs.InUse.{mark_ext, mark_is}
 use Rattle.book_windows.specs.Rows.{row_mark, row_marks}
 

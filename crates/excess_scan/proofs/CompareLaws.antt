@@ -3,7 +3,6 @@ use mathlib.Core.Path.{◌≡◌, sym, ap, ◌∙◌, subst}
 use mathlib.Core.Bool.{cond}
 use mathlib.Core.List.{List, [], ◌∷◌, ◌++◌}
 use Prim.Native.Nat.{ℕ, suc, ◌+◌, ◌^◌, ◌≤◌, ◌<◌}
-use native.Mathlib.Omega.{arith}
 use lib.Dec.{eqb}
 use lib.IntN.{ℤ}
 use lib.ListN.{length, get_or}
@@ -15,7 +14,7 @@ use Rattle.scan.proofs.FieldLaws.{found_within, apart_key}
 use Rattle.scan.proofs.PieceLaws.{place_at}
 use Rattle.scan.proofs.RunLaws.{Run, run_none, run_more, run_stopped, run_found}
 use Rattle.sheet_scan.specs.Lines.{Row, weight_item, open_line, window_line, window_lines}
-use Rattle.sheet_scan.specs.Rows.{no_row, slot_at, size_at, excess_at}
+use Rattle.sheet_scan.specs.Rows.{no_row, slot_at, excess_at}
 use Rattle.sheet_scan.specs.Whole.{There, Whatever, slot_of}
 use Rattle.excess_scan.specs.Known.{known_text}
 use Rattle.excess_scan.proofs.AlongLaws.{along_none}

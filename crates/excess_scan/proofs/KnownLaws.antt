@@ -1,18 +1,18 @@
 -- The one right text of a list of numbers: its pieces one after the other, and its line as the writer writes it. Cited by the scanner of the excesses. Assumes nothing.
 use mathlib.Core.Path.{◌≡◌, refl, sym, ap, ◌∙◌, subst}
-use mathlib.Core.List.{List, [], ◌∷◌, ◌++◌, append_assoc}
-use Prim.Native.Nat.{ℕ, suc, ◌+◌, ◌≤◌, ◌<◌}
+use mathlib.Core.List.{List, ◌++◌, append_assoc}
+use Prim.Native.Nat.{ℕ, ◌+◌, ◌≤◌}
 use native.Mathlib.Nat.{zero-add}
 use native.Mathlib.Omega.{arith}
 use lib.IntN.{ℤ, pos}
 use lib.ListN.{length, get_or, drop}
 use Rattle.lists.specs.Tab.{tab}
 use Rattle.lists.proofs.TabLaws.{length_tab, get_d_tab}
-use Rattle.text.specs.Text.{joined, signed}
+use Rattle.text.specs.Text.{joined}
 use Rattle.sheet.specs.Keys.{key_excess, newline}
 use Rattle.sheet.specs.Text.{list_text, excess_text}
 use Rattle.scan.specs.Form.{Form, Found, Stopped}
-use Rattle.scan.specs.Forms.{fixed, run, runText, RunGood}
+use Rattle.scan.specs.Forms.{fixed, run, run_text, RunGood}
 use Rattle.scan.proofs.FormLaws.{stopped_same, run_of}
 use Rattle.scan.specs.declared.Place.{Place}
 use Rattle.scan.specs.declared.Place.TheVariants.{Past, Stop}
@@ -31,7 +31,7 @@ module _ (t : ℕ → List ℕ) (n : ℕ) where
   abbrev pub pieces : ℕ → Form (Unit {0})
   pieces i = fixed (t i)
 
-  joined_is : (l : List (Unit {0})) → RunGood pieces 0 n l → runText pieces 0 l ≡ joined t n
+  joined_is : (l : List (Unit {0})) → RunGood pieces 0 n l → run_text pieces 0 l ≡ joined t n
   joined_is l good = sym (joined_run pieces t l tt (λ i h. refl)) ∙ ap (λ (k : ℕ). joined t k) (run_long pieces 0 n l good)
 
   pub pieces_found : {text : List ℕ} {at next : ℕ} {l : List (Unit {0})} → Found (run pieces 0 n) text at l next → Found (fixed (joined t n)) text at tt next

@@ -1,12 +1,11 @@
 -- Windows' lines that were scanned before, a line a turn: each is there, and what it says is what any reading of the lines says. Cited by the laws of the
 -- functions that read them into the lent lists. Assumes nothing.
-use mathlib.Core.Path.{◌≡◌, refl, sym, ap, ◌∙◌, subst}
+use mathlib.Core.Path.{◌≡◌, sym, ap, ◌∙◌, subst}
 use mathlib.Core.List.{List}
-use Prim.Native.Nat.{ℕ, suc, ◌+◌, ◌^◌, ◌≤◌, ◌<◌}
+use Prim.Native.Nat.{ℕ, suc, ◌+◌, ◌^◌, ◌<◌}
 use native.Mathlib.Numerals.{add-one}
 use native.Mathlib.Omega.{arith}
-use lib.IntN.{ℤ}
-use lib.ListN.{length, get_or}
+use lib.ListN.{get_or}
 use Rattle.scan.specs.Form.{Form, Found}
 use Rattle.scan.specs.Forms.{run}
 use Rattle.scan.proofs.FormLaws.{one_value}

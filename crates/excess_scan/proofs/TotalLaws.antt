@@ -1,10 +1,10 @@
 -- The weights of a window added up, one a turn. Cited by `total`. Assumes nothing.
-use mathlib.Core.Path.{◌≡◌, refl, sym, ap, ◌∙◌}
+use mathlib.Core.Path.{◌≡◌, sym, ap, ◌∙◌}
 use mathlib.Core.List.{List}
 use Prim.Native.Nat.{ℕ, ◌+◌, ◌*◌, ◌^◌, ◌≤◌, ◌<◌}
 use native.Mathlib.Omega.{arith}
 use lib.IntN.{ℤ, pos, nat_abs, ◌+ℤ◌}
-use lib.ListN.{length, get_or}
+use lib.ListN.{length}
 use Rattle.integers.specs.Sums.{sum}
 use Rattle.excesses.proofs.SumLaws.{sum_none, sum_more, size_more}
 use Rattle.scan.specs.Form.{Form, Found, Apart}

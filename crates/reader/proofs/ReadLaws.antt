@@ -1,13 +1,11 @@
 -- The ways of the readers, over the text and what is lent: how a text is judged, and the lists that are left. Cited by `judge` and both readers. Assumes nothing.
 use mathlib.Core.Path.{◌≡◌, refl, sym, ap, ◌∙◌, subst}
 use mathlib.Core.Bool.{Bool, true, false, cond, ◌||◌}
-use mathlib.Core.List.{List, [], ◌++◌, append-nil}
+use mathlib.Core.List.{List, ◌++◌, append-nil}
 use mathlib.Core.Logic.{inl, inr}
-use Prim.Native.Nat.{ℕ, ◌+◌, ◌*◌, ◌≤◌, ◌<◌, ◌^◌}
+use Prim.Native.Nat.{ℕ, ◌*◌, ◌≤◌, ◌<◌, ◌^◌}
 use native.Mathlib.Nat.{le_refl}
-use native.Mathlib.Omega.{arith}
 use lib.Dec.{ltb, eqb, lit≤}
-use lib.IntN.{ℤ}
 use lib.ListN.{length, drop, drop_of_length-le}
 use borrow.Author.Tests.{ltb-false}
 use Rattle.lists.specs.Tab.{tab, front, grid}
@@ -15,7 +13,6 @@ use Rattle.text.specs.Text.{over}
 use Rattle.lists.proofs.TabLaws.{length_tab}
 use Rattle.lists.proofs.BoolLaws.{never, or_left, or_right}
 use Rattle.windows.specs.Store.{store16, store32}
-use Rattle.sheet.specs.Text.{sheet_text_value}
 use Rattle.scan.specs.Form.{Found, Stopped}
 use Rattle.scan.proofs.FormLaws.{not_both, one_value, found_then}
 use Rattle.scan.specs.Forms.{fixed}
@@ -23,7 +20,7 @@ use Rattle.scan.proofs.TailLaws.{tail_found}
 use Rattle.scan.proofs.RunText.{run_long}
 use Rattle.sheet_scan.specs.declared.Sizes.{Sizes}
 use Rattle.sheet_scan.specs.declared.StoreLines.{StoreLines}
-use Rattle.sheet_scan.specs.Language.{Taken, limit_of_value, Acceptable, Longest, sheets}
+use Rattle.sheet_scan.specs.Language.{Taken, limit_of_value, sheets}
 use Rattle.sheet_scan.specs.Lines.{Row, size_lines, store_lines, window_line}
 use Rattle.sheet_scan.specs.Rows.{start_at, size_at, slot_at, excess_at}
 use Rattle.sheet_scan.specs.Whole.{lines_of, excess_line, body_lines, rest_lines}
@@ -44,17 +41,17 @@ module _ (v : Sizes) (room : Room) (h : too_few_slots v room ≡ false) where
   abbrev few_slots : Bool
   few_slots = ltb room.slots (v.windows * v.window_size)
 
-  abbrev few-two : Bool
-  few-two = few_slots || ltb room.starts v.windows
+  abbrev few_two : Bool
+  few_two = few_slots || ltb room.starts v.windows
 
-  abbrev few-three : Bool
-  few-three = few-two || ltb room.sizes v.windows
+  abbrev few_three : Bool
+  few_three = few_two || ltb room.sizes v.windows
 
-  three : few-three ≡ false
-  three = or_left few-three (ltb room.excesses v.windows) h
+  three : few_three ≡ false
+  three = or_left few_three (ltb room.excesses v.windows) h
 
-  two : few-two ≡ false
-  two = or_left few-two (ltb room.sizes v.windows) three
+  two : few_two ≡ false
+  two = or_left few_two (ltb room.sizes v.windows) three
 
   pub enough_slots : v.windows * v.window_size ≤ room.slots
   enough_slots = ltb-false room.slots (v.windows * v.window_size) (or_left few_slots (ltb room.starts v.windows) two)
@@ -63,10 +60,10 @@ module _ (v : Sizes) (room : Room) (h : too_few_slots v room ≡ false) where
   enough_starts = ltb-false room.starts v.windows (or_right few_slots (ltb room.starts v.windows) two)
 
   pub enough_sizes : v.windows ≤ room.sizes
-  enough_sizes = ltb-false room.sizes v.windows (or_right few-two (ltb room.sizes v.windows) three)
+  enough_sizes = ltb-false room.sizes v.windows (or_right few_two (ltb room.sizes v.windows) three)
 
   pub enough_excesses : v.windows ≤ room.excesses
-  enough_excesses = ltb-false room.excesses v.windows (or_right few-three (ltb room.excesses v.windows) h)
+  enough_excesses = ltb-false room.excesses v.windows (or_right few_three (ltb room.excesses v.windows) h)
 
 -- weights of the stores that a reader takes fit its list
 pub limit_31 : (bits : ℕ) → limit_of_value bits ≤ 2 ^ 31

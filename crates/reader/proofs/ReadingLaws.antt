@@ -3,8 +3,7 @@
 use mathlib.Core.Path.{◌≡◌, refl, sym, ap, ◌∙◌, subst}
 use mathlib.Core.Bool.{Bool, true, false}
 use mathlib.Core.List.{List, [], ◌++◌}
-use Prim.Native.Nat.{ℕ, ◌+◌, ◌*◌, ◌≤◌, ◌<◌}
-use lib.IntN.{ℤ}
+use Prim.Native.Nat.{ℕ, ◌+◌, ◌*◌}
 use lib.ListN.{length, take, drop}
 use lib.Seq.{take-append_seam}
 use Rattle.text.specs.Text.{over}
@@ -16,7 +15,7 @@ use Rattle.scan.specs.Form.{Found}
 use Rattle.scan.proofs.FormLaws.{found_at, one_value}
 use Rattle.sheet_scan.specs.declared.Sizes.{Sizes}
 use Rattle.sheet_scan.specs.declared.StoreLines.{StoreLines}
-use Rattle.sheet_scan.specs.Language.{store_named_value, Accepted, Blank, Acceptable, Longest, Whole, sheets}
+use Rattle.sheet_scan.specs.Language.{store_named_value, Accepted, Blank, Acceptable, Whole, sheets}
 use Rattle.sheet_scan.specs.Lines.{size_lines}
 use Rattle.sheet_scan.specs.Whole.{rest_lines}
 use Rattle.excesses.proofs.StoredLaws.{excess_count}
@@ -61,18 +60,18 @@ module _ (wide : Bool) where
 
   module _ {text : List ℕ} {lent left : Lists} {v : Sizes} {w : StoreLines} (l : Loads wide text lent v w left) where
     -- the sheet that was read
-    abbrev wholeRead : Whole
-    wholeRead = record { kind = v.kind; bits = w.bits; set = l.set }
+    abbrev whole_read : Whole
+    whole_read = record { kind = v.kind; bits = w.bits; set = l.set }
 
-    says_sizes : v ≡ sizes_of wholeRead
+    says_sizes : v ≡ sizes_of whole_read
     says_sizes = λ i. record { kind = v.kind; lines = l.lines i; windows = l.count i; window_size = l.window_size_value i }
 
-    says_store : w ≡ store_of wholeRead
+    says_store : w ≡ store_of whole_read
     says_store = λ i. record { bits = w.bits; precision = l.precision i }
 
     -- is what was written, where the slots past the windows' sizes are 0
-    same_whole : (x : Whole) → Accepted wide x.bits x.set → Blank x.set → text ≡ (sheets wide).text x → wholeRead ≡ x
-    same_whole x a blank e = apart_sheets wide wholeRead x (l.accepted, l.blank) (a, blank) [] [] (ap (λ (t : List ℕ). t ++ []) (sym l.is ∙ e))
+    same_whole : (x : Whole) → Accepted wide x.bits x.set → Blank x.set → text ≡ (sheets wide).text x → whole_read ≡ x
+    same_whole x a blank e = apart_sheets wide whole_read x (l.accepted, l.blank) (a, blank) [] [] (ap (λ (t : List ℕ). t ++ []) (sym l.is ∙ e))
 
     left_is : left ≡ left_by l.set lent
     left_is = λ i. lists (l.weights i) (l.starts i) (l.sizes i) (l.excesses i)
@@ -80,8 +79,8 @@ module _ (wide : Bool) where
     -- a loaded text is not one that No. 7 is due for
     no_seven : Little text lent → ⊥
     no_seven t =
-        let t2 : Little ((sheets wide).text wholeRead) lent = subst (λ (u : List ℕ). Little u lent) l.is t in
-        never (sym (too_little wholeRead lent l.accepted t2) ∙ sym (ap (λ (u : Sizes). short u lent) says_sizes) ∙ l.enough)
+        let t2 : Little ((sheets wide).text whole_read) lent = subst (λ (u : List ℕ). Little u lent) l.is t in
+        never (sym (too_little whole_read lent l.accepted t2) ∙ sym (ap (λ (u : Sizes). short u lent) says_sizes) ∙ l.enough)
 
     is_acceptable : Acceptable wide text
     is_acceptable = record { kind = v.kind; bits = w.bits; set = l.set; accepted = l.accepted; is = l.is }
@@ -136,7 +135,7 @@ module _ (wide : Bool) where
     -- THE CONTRACT DECIDES: the answer and the lists are the same, whatever meets it
     pub read_decides : (r q : Reading) (left right : Lists) → Reads wide text lent r left → Reads wide text lent q right → (r ≡ q) × (left ≡ right)
     read_decides (Loaded v w) (Loaded u y) left right l m =
-        let same = same_whole l (wholeRead m) m.accepted m.blank m.is in (
+        let same = same_whole l (whole_read m) m.accepted m.blank m.is in (
           ap {B = Reading} (λ (s : Sizes). Loaded s w) (says_sizes l ∙ ap sizes_of same ∙ sym (says_sizes m)) ∙ ap {B = Reading} (λ (s : StoreLines). Loaded u s) (says_store l ∙ ap store_of same ∙ sym (says_store m)),
           left_is l ∙ ap (λ (x : Whole). left_by x.set lent) same ∙ sym (left_is m),
         )

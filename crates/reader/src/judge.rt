@@ -1,6 +1,6 @@
 // Whether a text is a sheet, with enough lent for it.
 ghost use Rattle.std.specs.Prelude.{◌≡◌};
-ghost use Rattle.sheet_scan.specs.Answers.{sizesPlace};
+ghost use Rattle.sheet_scan.specs.Answers.{sizes_place};
 ghost use Rattle.sheet_scan.specs.Whole.{rest_place};
 ghost use Rattle.reader.specs.Reading.{room_for, too_few_slots, Judges, reading_of};
 
@@ -11,7 +11,7 @@ use sheet_scan::{After, Sizes, SizesAt, limit_of, place_stop, scan_rest, scan_si
 
 // The place of an answer.
 fn sizes_stop(s: SizesAt) -> usize
-    ensures answer { result ≡ sizesPlace s }
+    ensures answer { result ≡ sizes_place s }
 {
     match s {
         SizesAt::Sized(_, next) => next,

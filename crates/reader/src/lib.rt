@@ -10,7 +10,7 @@ pub use read::{read_sheet, read_sheet16};
 use sheet_scan::{Sizes, StoreLines};
 
 // The answer: what was loaded; too few slots, starts, sizes or excesses lent (No. 7); or the byte where the longest acceptable beginning ends (No. 13).
-#[derive(Drop)]
+#[derive(Clone, Copy)]
 pub enum Reading {
     Loaded(Sizes, StoreLines),
     TooFew,

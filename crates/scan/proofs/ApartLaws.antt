@@ -7,12 +7,12 @@ use native.Mathlib.Nat.{zero-add, add-zero, mul-one, mul-zero, zero-mul, pow-zer
 use native.Mathlib.Omega.{arith}
 use lib.Arith.{mod-mul}
 use lib.Dec.{leb, lit<}
-use lib.IntN.{ℤ, pos, negsuc}
+use lib.IntN.{pos, negsuc}
 use borrow.Author.Tests.{le-leb, leb-true}
 use Rattle.text.specs.Text.{digit_count_value, decimal, signed}
-use Rattle.lists.proofs.BoolLaws.{never, and_left, and_right}
+use Rattle.lists.proofs.BoolLaws.{and_left, and_right}
 use Rattle.scan.specs.Form.{Apart}
-use Rattle.scan.specs.Number.{numbers, fields, signeds, NoDigit, Inside}
+use Rattle.scan.specs.Number.{numbers, fields, signeds, NoDigit}
 use Rattle.scan.proofs.DecimalLaws.{lower, decimal_lower, count_top}
 use Rattle.scan.proofs.SignLaws.{decimal_head}
 

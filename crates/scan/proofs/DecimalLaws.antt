@@ -1,12 +1,11 @@
 -- Decimals digit by digit: a number's digits, how many there are, and what the first k of them read. Cited by the scanners of numbers. Assumes nothing.
 use mathlib.Core.Path.{◌≡◌, refl, sym, ap, ◌∙◌}
 use mathlib.Core.Bool.{Bool, true, false, cond}
-use mathlib.Core.List.{List, [], ◌∷◌, ◌++◌}
+use mathlib.Core.List.{List, [], ◌∷◌}
 use Prim.Native.Nat.{ℕ, zero, suc, ◌+◌, ◌-◌, ◌*◌, ◌/◌, ◌%◌, ◌^◌, ◌≤◌, ◌<◌}
-use native.Mathlib.Nat.{zero-add, add-zero, add-suc, suc-add, pow-suc, pow-zero, one-le-pow, div-one, div-div-eq-div-mul, div-add-mod, mod-lt, div-eq_of_lt, div-le_self, le_trans, le_refl, not-suc-le-zero, div-eq_of_lt-le, div-mul-le_self, lt-div-mul-add, zero-div}
-use native.Mathlib.Numerals.{add-one}
+use native.Mathlib.Nat.{zero-add, add-zero, add-suc, pow-suc, pow-zero, div-one, div-div-eq-div-mul, div-eq_of_lt, le_refl}
 use native.Mathlib.Omega.{arith}
-use lib.Dec.{eqb, lit<, lit≤}
+use lib.Dec.{eqb}
 use lib.ListN.{length}
 use borrow.Author.Tests.{eq-eqb, ne_eqb, eqb-true, eqb-false}
 use Rattle.lists.specs.Tab.{tab, first}

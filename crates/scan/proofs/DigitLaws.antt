@@ -1,8 +1,8 @@
 -- One digit more: what it does to the count of digits, and which digit may come. Cited by `digit_goes_on`. Assumes nothing.
-use mathlib.Core.Path.{◌≡◌, refl, sym, ap, ◌∙◌, subst}
+use mathlib.Core.Path.{◌≡◌, sym, ap, ◌∙◌, subst}
 use mathlib.Core.Bool.{Bool, true, false}
 use Prim.Native.Nat.{ℕ, zero, suc, ◌+◌, ◌*◌, ◌/◌, ◌^◌, ◌≤◌, ◌<◌}
-use native.Mathlib.Nat.{zero-add, add-zero, zero-mul, pow-zero, div-one, div-eq_of_lt, zero-div}
+use native.Mathlib.Nat.{zero-add, pow-zero, div-one, div-eq_of_lt, zero-div}
 use native.Mathlib.Omega.{arith}
 use lib.Dec.{eqb}
 use lib.Arith.{digits_div}
@@ -10,7 +10,7 @@ use borrow.Author.Tests.{eqb-true, eqb-false}
 use Rattle.text.specs.Text.{digit_count_value}
 use Rattle.scan.specs.Number.{Opens, GoesOn, NextDigit}
 use Rattle.scan.specs.Answer.{Tells}
-use Rattle.scan.proofs.DecimalLaws.{count_least, count_below, count_top, count_is, opens_count}
+use Rattle.scan.proofs.DecimalLaws.{count_below, count_top, count_is, opens_count}
 use Rattle.scan.proofs.NumberLaws.{count_with}
 
 -- what is told of one digit is told of the byte

@@ -1,7 +1,6 @@
 -- A key and then a number; how far a piece that was found reaches. Cited by `take_key`, `take_field` and the reader's lines. Assumes nothing.
-use mathlib.Core.Path.{◌≡◌, refl, sym, ap, ◌∙◌, subst}
-use mathlib.Core.Bool.{Bool}
-use mathlib.Core.List.{List, [], ◌∷◌, ◌++◌, append_assoc}
+use mathlib.Core.Path.{◌≡◌, refl, sym, ap, ◌∙◌}
+use mathlib.Core.List.{List, [], ◌∷◌, ◌++◌}
 use Prim.Native.Nat.{ℕ, ◌+◌, ◌≤◌, ◌<◌}
 use native.Mathlib.Nat.{le_refl}
 use native.Mathlib.Omega.{arith}
@@ -14,7 +13,7 @@ use Rattle.text.specs.Words.{common}
 use Rattle.scan.specs.Form.{Form, Found, Stopped, Apart}
 use Rattle.scan.specs.Forms.{fixed, and_then}
 use Rattle.scan.specs.Number.{numbers, fields}
-use Rattle.scan.specs.Answer.{Scans, Passes}
+use Rattle.scan.specs.Answer.{Scans}
 use Rattle.scan.proofs.CommonLaws.{common_right, common_whole}
 use Rattle.scan.proofs.FormLaws.{found_then, stopped_first, stopped_then, stopped_same}
 

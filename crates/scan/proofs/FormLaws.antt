@@ -11,7 +11,7 @@ use lib.Seq.{drop-drop}
 use borrow.Author.Tests.{ltb-true, ltb-false}
 use Rattle.text.specs.Words.{common}
 use Rattle.scan.specs.Form.{Form, Found, Stopped, Apart}
-use Rattle.scan.specs.Forms.{fixed, and_then, runText, RunGood, run}
+use Rattle.scan.specs.Forms.{and_then, run_text, RunGood, run}
 use Rattle.scan.proofs.CommonLaws.{common_append, common_right, common_short, common_whole, common_head, common_self}
 
 module _ {A : Type 0} (F : Form A) where
@@ -163,10 +163,10 @@ module _ {A : Type 0} (F : ℕ → Form A) where
   pub run_stopped : (i n : ℕ) {text : List ℕ} {at stop : ℕ} → Stopped (and_then (F i) (λ (a : A). run F (suc i) n)) text at stop → Stopped (run F i (suc n)) text at stop
   run_stopped i n s = stopped_same (and_then (F i) (λ (a : A). run F (suc i) n)) (run F i (suc n)) there back s
     where
-      there : (p : A × List A) → (F i).Good p.0 × RunGood F (suc i) n p.1 → (l : List A) × RunGood F i (suc n) l × (runText F i l ≡ (F i).text p.0 ++ runText F (suc i) p.1)
+      there : (p : A × List A) → (F i).Good p.0 × RunGood F (suc i) n p.1 → (l : List A) × RunGood F i (suc n) l × (run_text F i l ≡ (F i).text p.0 ++ run_text F (suc i) p.1)
       there p good = (p.0 ∷ p.1, good, refl)
 
-      back : (l : List A) → RunGood F i (suc n) l → (p : A × List A) × ((F i).Good p.0 × RunGood F (suc i) n p.1) × ((F i).text p.0 ++ runText F (suc i) p.1 ≡ runText F i l)
+      back : (l : List A) → RunGood F i (suc n) l → (p : A × List A) × ((F i).Good p.0 × RunGood F (suc i) n p.1) × ((F i).text p.0 ++ run_text F (suc i) p.1 ≡ run_text F i l)
       back [] good = absurd good
       back (a ∷ l) good = ((a, l), good, refl)
 

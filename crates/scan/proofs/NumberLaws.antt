@@ -5,12 +5,11 @@ use mathlib.Core.Bool.{Bool, true, false}
 use mathlib.Core.List.{List, [], ◌∷◌, ◌++◌}
 use mathlib.Core.Logic.{◌⊎◌, inl, inr}
 use Prim.Native.Nat.{ℕ, zero, suc, ◌+◌, ◌-◌, ◌*◌, ◌/◌, ◌%◌, ◌^◌, ◌≤◌, ◌<◌, max}
-use native.Mathlib.Nat.{zero-add, add-zero, add-suc, pow-suc, pow-zero, one-le-pow, div-one, div-div-eq-div-mul, div-eq_of_lt, div-le_self, zero-div, div-eq_of_lt-le, div-mul-le_self, lt-div-mul-add, mul-le-mul, le_trans, le_refl, pow-le-pow_right, le-max_left, le-max_right}
-use native.Mathlib.Numerals.{add-one}
+use native.Mathlib.Nat.{zero-add, add-zero, pow-suc, pow-zero, one-le-pow, div-one, div-div-eq-div-mul, div-eq_of_lt, div-le_self, zero-div, div-eq_of_lt-le, div-mul-le_self, lt-div-mul-add, mul-le-mul, le_refl, pow-le-pow_right, le-max_left, le-max_right}
 use native.Mathlib.Omega.{arith}
 use lib.Dec.{eqb, leb, lit<}
-use lib.ListN.{length, get_or, drop, length-append}
-use lib.Seq.{drop-cons, drop-drop}
+use lib.ListN.{length, drop, length-append}
+use lib.Seq.{drop-drop}
 use lib.Arith.{digits_div, digits_mod}
 use borrow.Author.Tests.{eqb-true, eqb-false, leb-true, leb-false}
 use Rattle.text.specs.Text.{digit_count_value, decimal}
@@ -18,8 +17,8 @@ use Rattle.text.specs.Words.{common}
 use Rattle.scan.specs.Form.{Found, Stopped}
 use Rattle.scan.specs.Number.{Opens, GoesOn, numbers}
 use Rattle.text.proofs.WordLaws.{common_same, common_other}
-use Rattle.scan.proofs.CommonLaws.{common_whole, common_right}
-use Rattle.scan.proofs.DecimalLaws.{lower, decimal_lower, length_lower, count_least, count_most, count_below, count_top, count_is, div_pow_add, digit_more, opens_count}
+use Rattle.scan.proofs.CommonLaws.{common_whole}
+use Rattle.scan.proofs.DecimalLaws.{lower, decimal_lower, length_lower, count_least, count_below, count_top, count_is, div_pow_add, digit_more, opens_count}
 
 -- the number's text
 abbrev written : ℕ → ℕ → List ℕ

@@ -8,30 +8,30 @@ use lib.ListN.{length, get_or, take}
 use lib.Seq.{take-suc, take-length, length-take-le}
 use Rattle.text.specs.Text.{joined}
 use Rattle.scan.specs.Form.{Form}
-use Rattle.scan.specs.Forms.{runText, RunGood}
+use Rattle.scan.specs.Forms.{run_text, RunGood}
 
 module _ {A : Type 0} (F : ℕ → Form A) where
-  pub run_snoc : (i : ℕ) (l : List A) (a : A) → runText F i (l ++ a ∷ []) ≡ runText F i l ++ (F (i + length l)).text a
+  pub run_snoc : (i : ℕ) (l : List A) (a : A) → run_text F i (l ++ a ∷ []) ≡ run_text F i l ++ (F (i + length l)).text a
   run_snoc i [] a = append-nil ((F i).text a) ∙ ap (λ (k : ℕ). (F k).text a) (sym (add-zero i))
   run_snoc i (b ∷ l) a =
-      ap (λ (t : List ℕ). (F i).text b ++ t) (run_snoc (suc i) l a ∙ ap (λ (k : ℕ). runText F (suc i) l ++ (F k).text a) (suc-add i (length l) ∙ sym (add-suc i (length l))))
-      ∙ sym (append_assoc ((F i).text b) (runText F (suc i) l) ((F (i + suc (length l))).text a))
+      ap (λ (t : List ℕ). (F i).text b ++ t) (run_snoc (suc i) l a ∙ ap (λ (k : ℕ). run_text F (suc i) l ++ (F k).text a) (suc-add i (length l) ∙ sym (add-suc i (length l))))
+      ∙ sym (append_assoc ((F i).text b) (run_text F (suc i) l) ((F (i + suc (length l))).text a))
 
   -- one value more of a list's beginning
-  pub run_take : (l : List A) (d : A) (n : ℕ) → n < length l → runText F 0 (take (suc n) l) ≡ runText F 0 (take n l) ++ (F n).text (get_or l n d)
+  pub run_take : (l : List A) (d : A) (n : ℕ) → n < length l → run_text F 0 (take (suc n) l) ≡ run_text F 0 (take n l) ++ (F n).text (get_or l n d)
   run_take l d n h =
       let long : 0 + length (take n l) ≡ n = zero-add (length (take n l)) ∙ length-take-le n l (omega arith) in
-      ap (runText F 0) (take-suc l n d h) ∙ run_snoc 0 (take n l) (get_or l n d) ∙ ap (λ (k : ℕ). runText F 0 (take n l) ++ (F k).text (get_or l n d)) long
+      ap (run_text F 0) (take-suc l n d h) ∙ run_snoc 0 (take n l) (get_or l n d) ∙ ap (λ (k : ℕ). run_text F 0 (take n l) ++ (F k).text (get_or l n d)) long
 
-  joined_take : (piece : ℕ → List ℕ) (l : List A) (d : A) (n : ℕ) → n ≤ length l → ((i : ℕ) → i < n → piece i ≡ (F i).text (get_or l i d)) → joined piece n ≡ runText F 0 (take n l)
+  joined_take : (piece : ℕ → List ℕ) (l : List A) (d : A) (n : ℕ) → n ≤ length l → ((i : ℕ) → i < n → piece i ≡ (F i).text (get_or l i d)) → joined piece n ≡ run_text F 0 (take n l)
   joined_take piece l d zero h same = refl
   joined_take piece l d (suc n) h same =
       ap (λ (t : List ℕ). t ++ piece n) (joined_take piece l d n (omega arith) (λ i k. same i (omega arith)))
-      ∙ ap (λ (t : List ℕ). runText F 0 (take n l) ++ t) (same n (omega arith)) ∙ sym (run_take l d n h)
+      ∙ ap (λ (t : List ℕ). run_text F 0 (take n l) ++ t) (same n (omega arith)) ∙ sym (run_take l d n h)
 
   -- pieces joined are the run, where each is
-  pub joined_run : (piece : ℕ → List ℕ) (l : List A) (d : A) → ((i : ℕ) → i < length l → piece i ≡ (F i).text (get_or l i d)) → joined piece (length l) ≡ runText F 0 l
-  joined_run piece l d same = joined_take piece l d (length l) (omega arith) same ∙ ap (runText F 0) (take-length l)
+  pub joined_run : (piece : ℕ → List ℕ) (l : List A) (d : A) → ((i : ℕ) → i < length l → piece i ≡ (F i).text (get_or l i d)) → joined piece (length l) ≡ run_text F 0 l
+  joined_run piece l d same = joined_take piece l d (length l) (omega arith) same ∙ ap (run_text F 0) (take-length l)
 
   pub run_long : (i n : ℕ) (l : List A) → RunGood F i n l → length l ≡ n
   run_long i zero [] good = refl

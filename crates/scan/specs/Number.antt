@@ -1,6 +1,6 @@
 -- The forms of a sheet's numbers: in decimal, without leading zeros, from `low` to `high`, with the byte that ends them. Cited by the scanners of numbers.
 -- Definitions only. Assumes nothing.
-use Rattle.std.specs.Prelude.{◌≡◌, List, [], ◌∷◌, ◌++◌, ℕ, suc, ◌+◌, ◌*◌, ◌^◌, ◌/◌, ◌≤◌, ◌<◌, ℤ, pos, negsuc}
+use Rattle.std.specs.Prelude.{◌≡◌, List, [], ◌∷◌, ◌++◌, ℕ, ◌+◌, ◌*◌, ◌^◌, ◌/◌, ◌≤◌, ◌<◌, ℤ, pos, negsuc}
 use Rattle.text.specs.Text.{decimal, signed, digit_count_value}
 use Rattle.scan.specs.Form.{Form}
 

@@ -2,7 +2,6 @@
 -- input one row applies and no other. Over both stores. Cited by docs/CONTRACTS.md. Assumes nothing.
 use mathlib.Core.Path.{◌≡◌, refl}
 use mathlib.Core.Bool.{Bool, true, false, cond}
-use mathlib.Core.List.{List, [], ◌∷◌}
 use Prim.Native.Nat.{ℕ}
 use lib.ListN.{length}
 use Rattle.lists.specs.Ladder.{Exactly, given, Due}
@@ -12,10 +11,11 @@ use Rattle.refusal.specs.declared.Refusal.TheVariants.{BadSide, DoesNotFit, NoRo
 use Rattle.filters.specs.declared.FilterType.{FilterType}
 use Rattle.windows.specs.declared.Store.{Store}
 use Rattle.windows.specs.Set.{Stored, windows}
-use Rattle.windows.specs.Fit.{badStored}
+use Rattle.windows.specs.Fit.{bad_stored}
 use Rattle.sheet.specs.declared.Sheet.TheVariants.{Written, Refused}
 use Rattle.sheet.specs.Answer.{no_room, by_case, answer_of, number_of}
 use Rattle.sheet.specs.Text.{sheet_text_value}
+use Rattle.sheet.proofs.Tests.{rows}
 
 numbered : (a b c : Bool) (n : ℕ) → number_of (cond a (Refused BadSide) (cond b (Refused DoesNotFit) (cond c (Refused NoRoom) (Written n)))) ≡ cond a 1 (cond b 10 (cond c 11 0))
 numbered true b c n = refl
@@ -24,19 +24,11 @@ numbered false false true n = refl
 numbered false false false n = refl
 
 module _ (kind : FilterType) (store : Store) (s : Stored) (room : ℕ) where
-  -- the tests in the order of judging, each with its number: sides; lists, windows, precision and excesses; room for the text
-  abbrev pub rows : List (Bool × ℕ)
-  rows =
-      (bad_sides_value s.set.layout.lines (windows s.set.layout), 1)
-      ∷ (badStored s store, 10)
-      ∷ (no_room room (length (sheet_text_value kind store s)), 11)
-      ∷ []
-
-  is : number_of (answer_of kind store s room) ≡ given rows
+  is : number_of (answer_of kind store s room) ≡ given (rows kind store s room)
   unfolding by_case
   is =
-      numbered (bad_sides_value s.set.layout.lines (windows s.set.layout)) (badStored s store)
+      numbered (bad_sides_value s.set.layout.lines (windows s.set.layout)) (bad_stored s store)
       (no_room room (length (sheet_text_value kind store s))) (length (sheet_text_value kind store s))
 
-  pub written_exactly : (n : ℕ) → Exactly (number_of (answer_of kind store s room) ≡ n) (Due n rows)
-  written_exactly n = rw is (exactly_due n rows refl)
+  pub written_exactly : (n : ℕ) → Exactly (number_of (answer_of kind store s room) ≡ n) (Due n (rows kind store s room))
+  written_exactly n = rw is (exactly_due n (rows kind store s room) refl)

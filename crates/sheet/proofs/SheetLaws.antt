@@ -9,7 +9,7 @@ use native.Mathlib.Omega.{arith}
 use lib.Dec.{eqb, lit<}
 use lib.IntN.{ℤ, pos}
 use lib.ListN.{length, get_or, set, length-append}
-use Rattle.text.specs.Text.{laid, reached, joined, signed, field_text, line_text}
+use Rattle.text.specs.Text.{laid, reached, joined, signed}
 use Rattle.text.proofs.TextLaws.{reached_whole, Laid, laid_none, laid_here, laid_then, laid_byte, laid_piece, signed_small, joined_small, field_small, line_small}
 use Rattle.filters.specs.declared.FilterType.{FilterType}
 use Rattle.filters.specs.declared.FilterType.TheVariants.{Box, Bilinear, CatmullRom, Mitchell}
@@ -17,7 +17,7 @@ use Rattle.windows.specs.declared.Store.{Store}
 use Rattle.windows.specs.Set.{Stored, windows}
 use Rattle.windows.specs.Store.{weight_bits}
 use Rattle.windows.specs.Fit.{Fits}
-use Rattle.sheet.specs.Keys.{key_in, key_out, key_window, key_store, key_precision, key_line, key_excess, equals, comma, newline, kind_name}
+use Rattle.sheet.specs.Keys.{key_in, key_out, key_window, key_store, key_precision, key_line, equals, comma, kind_name}
 use Rattle.sheet.specs.Text.{kind_text, sides_text, store_text, head_text, item_text, item_at, list_text, open_text, window_at, windows_text, excess_text, sheet_text_value}
 
 name_small : (kind : FilterType) → length (kind_name kind) ≤ 10

@@ -14,7 +14,7 @@ use Rattle.refusal.specs.declared.Refusal.TheVariants.{BadSide, DoesNotFit, NoRo
 use Rattle.filters.specs.declared.FilterType.{FilterType}
 use Rattle.windows.specs.declared.Store.{Store}
 use Rattle.windows.specs.Set.{Stored, windows}
-use Rattle.windows.specs.Fit.{badStored}
+use Rattle.windows.specs.Fit.{bad_stored}
 use Rattle.sheet.specs.declared.Sheet.{Sheet}
 use Rattle.sheet.specs.declared.Sheet.TheVariants.{Written, Refused}
 use Rattle.sheet.specs.Answer.{no_room, by_case, answer_of, written_of}
@@ -37,11 +37,11 @@ module _ (kind : FilterType) (store : Store) (s : Stored) (old : List ℕ) where
   side_refused h = rw h (refl, refl)
 
   module _ (sides : bad_sides_value s.set.layout.lines (windows s.set.layout) ≡ false) where
-    pub misfit_refused : badStored s store ≡ true → Meets (Refused DoesNotFit) old
+    pub misfit_refused : bad_stored s store ≡ true → Meets (Refused DoesNotFit) old
     unfolding by_case
     misfit_refused h = rw (sides, h) (refl, refl)
 
-    module _ (fits : badStored s store ≡ false) where
+    module _ (fits : bad_stored s store ≡ false) where
       pub room_refused : length old < length (sheet_text_value kind store s) → Meets (Refused NoRoom) old
       unfolding by_case
       room_refused h = rw (sides, fits, short_room (length old) (length (sheet_text_value kind store s)) h) (refl, refl)

@@ -9,7 +9,7 @@ use Rattle.refusal.specs.Refusal.{number_of as refusalNumber}
 use Rattle.filters.specs.declared.FilterType.{FilterType}
 use Rattle.windows.specs.declared.Store.{Store}
 use Rattle.windows.specs.Set.{Stored, windows}
-use Rattle.windows.specs.Fit.{badStored}
+use Rattle.windows.specs.Fit.{bad_stored}
 use Rattle.sheet.specs.declared.Sheet.{Sheet}
 use Rattle.sheet.specs.declared.Sheet.TheVariants.{Written, Refused}
 use Rattle.sheet.specs.Text.{sheet_text_value}
@@ -22,7 +22,7 @@ no_room room text = ltb room text
 unfoldable pub by_case : {A : Type 0} → Store → Stored → ℕ → ℕ → (Refusal → A) → A → A
 by_case store s room text refused done =
     cond (bad_sides_value s.set.layout.lines (windows s.set.layout)) (refused BadSide)
-    (cond (badStored s store) (refused DoesNotFit)
+    (cond (bad_stored s store) (refused DoesNotFit)
     (cond (no_room room text) (refused NoRoom)
     done))
 

@@ -8,7 +8,7 @@ pub mod keys;
 use refusal::Refusal;
 
 // The answer: how many bytes were written, or why none was.
-#[derive(Drop)]
+#[derive(Clone, Copy)]
 pub enum Sheet {
     Written(u64),
     Refused(Refusal),

@@ -9,7 +9,7 @@ use mir.Syntax.{Width, w64}
 use mir.Val.{SFits, to_z, of_z, hbits}
 use lib.ListN.{length, set}
 use Rattle.lists.specs.Tab.{front}
-use Rattle.lists.proofs.TabLaws.{Written, written_none, written_more}
+use Rattle.lists.proofs.TabLaws.{written_none, written_more}
 use Rattle.scan.specs.Form.{Form, Found, Apart}
 use Rattle.scan.specs.Forms.{run}
 use Rattle.scan.specs.Number.{Inside}

@@ -1,19 +1,17 @@
 -- An accepted set as rows, and back. Cited by the laws of whole sheets. Assumes nothing.
 use mathlib.Core.Path.{◌≡◌, refl, sym, ap, ◌∙◌, subst}
 use mathlib.Core.Bool.{Bool, true, false}
-use mathlib.Core.List.{List}
 use Prim.Native.Nat.{ℕ, ◌+◌, ◌*◌, ◌/◌, ◌%◌, ◌≤◌, ◌<◌}
 use native.Mathlib.Nat.{zero-add, div-add-mod, mul_comm, mod-lt}
 use native.Mathlib.Omega.{arith}
 use lib.Dec.{ltb}
 use lib.IntN.{ℤ, pos}
 use lib.ListN.{length, get_or, get_or-eq_default}
-use lib.Seq.{ext_get_or}
 use borrow.Author.Tests.{ltb-true, ltb-false}
 use Rattle.lists.specs.Tab.{tab, grid}
 use Rattle.lists.proofs.TabLaws.{length_tab, get_d_tab, tab_get_d, tab_ext}
 use Rattle.windows.specs.Fit.{Fits}
-use Rattle.windows.specs.Set.{Stored, layout_of, set_of, stored_of, windows, start, size, weight, excess, excess_of}
+use Rattle.windows.specs.Set.{Stored, layout_of, set_of, stored_of, windows, size, weight, excess, excess_of}
 use Rattle.windows.specs.Store.{largest_precision}
 use Rattle.lists.proofs.RangeLaws.{InRange}
 use Rattle.excesses.proofs.SameExcess.{excess_ext}

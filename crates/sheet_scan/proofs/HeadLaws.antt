@@ -1,13 +1,12 @@
 -- The first four lines of a sheet, line by line: what is found and where it stops. Cited by `scan_sizes`. Assumes nothing.
-use mathlib.Core.Path.{◌≡◌, refl, sym, ap, ◌∙◌, subst}
-use mathlib.Core.List.{List, [], ◌∷◌, ◌++◌, append_assoc}
-use Prim.Native.Nat.{ℕ, ◌+◌, ◌≤◌, ◌<◌, ◌^◌}
+use mathlib.Core.Path.{◌≡◌, sym, ap, ◌∙◌}
+use mathlib.Core.List.{List, ◌++◌, append_assoc}
+use Prim.Native.Nat.{ℕ, ◌+◌, ◌≤◌}
 use native.Mathlib.Omega.{arith}
 use lib.Dec.{lit≤, lit<}
 use lib.ListN.{length, drop}
 use Rattle.text.specs.Text.{decimal, field_text, line_text}
 use Rattle.filters.specs.declared.FilterType.{FilterType}
-use Rattle.filters.specs.declared.FilterType.TheVariants.{Box}
 use Rattle.sheet.specs.Keys.{key_in, key_out, key_window, newline}
 use Rattle.sheet.specs.Text.{kind_text, sides_text}
 use Rattle.scan.specs.Form.{Form, Found, Stopped, Apart}

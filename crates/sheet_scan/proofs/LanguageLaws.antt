@@ -1,7 +1,7 @@
 -- From the form of a sheet to the acceptable texts: the two facts about the refusal byte. Cited by the laws of the readers. Assumes nothing.
 use mathlib.Core.Path.{◌≡◌, refl, sym, ap, ◌∙◌, subst}
 use mathlib.Core.Bool.{Bool, true, false}
-use mathlib.Core.List.{List, [], ◌∷◌, ◌++◌, append-nil}
+use mathlib.Core.List.{List, [], ◌++◌, append-nil}
 use Prim.Native.Nat.{ℕ, ◌+◌, ◌≤◌, ◌<◌}
 use native.Mathlib.Nat.{zero-add}
 use native.Mathlib.Omega.{arith}
@@ -9,11 +9,10 @@ use lib.Dec.{ltb}
 use borrow.Author.Tests.{ltb-true, ltb-false}
 use lib.ListN.{length, take, drop, take-append-drop}
 use lib.Seq.{length-take-le}
-use Rattle.sheet.specs.Text.{sheet_text_value}
 use Rattle.text.specs.Words.{common}
 use Rattle.scan.specs.Form.{Found, Stopped}
-use Rattle.scan.proofs.CommonLaws.{common_append, common_left, common_right, common_take, common_self, common_whole, common_head}
-use Rattle.sheet_scan.specs.Language.{Accepted, Blank, Acceptable, Longest, Whole, sheets}
+use Rattle.scan.proofs.CommonLaws.{common_append, common_left, common_right, common_take, common_self, common_head}
+use Rattle.sheet_scan.specs.Language.{Acceptable, Longest, Whole, sheets}
 use Rattle.sheet_scan.proofs.SetLaws.{rows_of}
 use Rattle.sheet_scan.proofs.WholeLaws.{whole_of_value, sizes_of, store_of, whole_good, whole_text, parts_good, parts_text, apart_sheets}
 

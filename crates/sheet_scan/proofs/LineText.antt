@@ -1,7 +1,7 @@
 -- The writer's text of a set is the text of its rows. Cited by the laws that take a set to its lines and back. Assumes nothing.
 use mathlib.Core.Path.{◌≡◌, refl, sym, ap, ◌∙◌, subst}
-use mathlib.Core.Bool.{Bool, true, false, cond}
-use mathlib.Core.List.{List, [], ◌∷◌, ◌++◌, append_assoc, append-nil}
+use mathlib.Core.Bool.{cond}
+use mathlib.Core.List.{List, [], ◌∷◌, ◌++◌, append_assoc}
 use Prim.Native.Nat.{ℕ, zero, suc, ◌+◌, ◌*◌, ◌≤◌, ◌<◌}
 use native.Mathlib.Omega.{arith}
 use lib.Dec.{eqb, eqb-suc-zero}
@@ -14,7 +14,7 @@ use Rattle.windows.specs.Set.{Stored, windows}
 use Rattle.sheet.specs.Keys.{comma, newline}
 use Rattle.sheet.specs.Text.{item_text, item_at, list_text, open_text, window_at, windows_text}
 use Rattle.scan.specs.Form.{Form}
-use Rattle.scan.specs.Forms.{runText, RunGood}
+use Rattle.scan.specs.Forms.{run_text}
 use Rattle.scan.proofs.RunText.{run_take, joined_run}
 use Rattle.sheet_scan.specs.Lines.{Row, weight_item, window_line}
 use Rattle.sheet_scan.specs.Rows.{no_row, start_at, size_at, slot_at}
@@ -38,7 +38,7 @@ module _ (limit : ℕ) (ws : List ℤ) (from : ℕ) (l : List ℤ) (same : (j : 
   unfolding item_text
   first h = rw (same 0 h)
 
-  so_far : (m : ℕ) → m < length l → joined (item_at ws from) (suc m) ++ (end (suc m) ∷ []) ≡ runText F 0 (take (suc m) l)
+  so_far : (m : ℕ) → m < length l → joined (item_at ws from) (suc m) ++ (end (suc m) ∷ []) ≡ run_text F 0 (take (suc m) l)
   so_far zero h = ap (λ (t : List ℕ). t ++ (end 1 ∷ [])) (first h) ∙ sym (run_take F l (pos 0) 0 h)
   so_far (suc m) h =
       let before = so_far m (omega arith) in
@@ -49,13 +49,13 @@ module _ (limit : ℕ) (ws : List ℤ) (from : ℕ) (l : List ℤ) (same : (j : 
       ∙ ap (λ (t : List ℕ). t ++ (signed (get_or l (suc m) (pos 0)) ++ (end (suc (suc m)) ∷ []))) before
       ∙ sym (run_take F l (pos 0) (suc m) h)
 
-  all_of : (n : ℕ) → n ≡ length l → 1 ≤ n → joined (item_at ws from) n ++ newline ≡ runText F 0 l
+  all_of : (n : ℕ) → n ≡ length l → 1 ≤ n → joined (item_at ws from) n ++ newline ≡ run_text F 0 l
   all_of zero e some = absurd (omega arith)
   all_of (suc m) e some =
       let last : end (suc m) ≡ 10 = rw (eq-eqb (suc m) (length l) e) in
-      ap (λ (b : ℕ). joined (item_at ws from) (suc m) ++ (b ∷ [])) (sym last) ∙ so_far m (omega arith) ∙ ap (λ (n : ℕ). runText F 0 (take n l)) e ∙ ap (runText F 0) (take-length l)
+      ap (λ (b : ℕ). joined (item_at ws from) (suc m) ++ (b ∷ [])) (sym last) ∙ so_far m (omega arith) ∙ ap (λ (n : ℕ). run_text F 0 (take n l)) e ∙ ap (run_text F 0) (take-length l)
 
-  pub weights_text : 1 ≤ length l → list_text ws from (length l) ++ newline ≡ runText (weight_item limit (length l)) 0 l
+  pub weights_text : 1 ≤ length l → list_text ws from (length l) ++ newline ≡ run_text (weight_item limit (length l)) 0 l
   unfolding list_text
   weights_text some = all_of (length l) refl some
 
@@ -75,12 +75,12 @@ module _ (lines limit : ℕ) (s : Stored) (rows : List Row) (h : Says s rows) wh
       let r = get_or rows i no_row in
       let long : length r.weights ≡ r.size = h.long i l in
       let some = h.some i l in
-      let text : list_text s.set.weights (i * s.set.layout.window_size_value) r.size ++ newline ≡ runText (weight_item limit r.size) 0 r.weights =
-      subst (λ (n : ℕ). list_text s.set.weights (i * s.set.layout.window_size_value) n ++ newline ≡ runText (weight_item limit n) 0 r.weights) long
+      let text : list_text s.set.weights (i * s.set.layout.window_size_value) r.size ++ newline ≡ run_text (weight_item limit r.size) 0 r.weights =
+      subst (λ (n : ℕ). list_text s.set.weights (i * s.set.layout.window_size_value) n ++ newline ≡ run_text (weight_item limit n) 0 r.weights) long
       (weights_text limit s.set.weights (i * s.set.layout.window_size_value) r.weights (λ k m. h.weights i k l (omega arith)) (omega arith)) in
       rw (h.starts i l, h.sizes i l) (append_assoc (open_text i r.start r.size) (list_text s.set.weights (i * s.set.layout.window_size_value) r.size) newline ∙ ap (λ (t : List ℕ). open_text i r.start r.size ++ t) text)
 
-  pub windows_text_fact : windows_text s.set.layout.starts s.set.layout.sizes s.set.layout.window_size_value s.set.weights ≡ runText (window_line lines s.set.layout.window_size_value limit) 0 rows
+  pub windows_text_fact : windows_text s.set.layout.starts s.set.layout.sizes s.set.layout.window_size_value s.set.weights ≡ run_text (window_line lines s.set.layout.window_size_value limit) 0 rows
   unfolding windows_text
   windows_text_fact =
       ap (λ (n : ℕ). joined (window_at s.set.layout.starts s.set.layout.sizes s.set.layout.window_size_value s.set.weights) n) (sym h.count)

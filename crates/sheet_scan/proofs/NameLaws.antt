@@ -1,5 +1,5 @@
 -- The filters' names: none begins another, and where a text parts from all four. Cited by the scanners of the filter's line. Assumes nothing.
-use mathlib.Core.Path.{◌≡◌, refl, sym, ap, ◌∙◌, subst}
+use mathlib.Core.Path.{◌≡◌, refl, sym, ap, ◌∙◌}
 use mathlib.Core.Bool.{Bool, true, false}
 use mathlib.Core.List.{List, [], ◌∷◌, ◌++◌, append_assoc}
 use mathlib.Core.Logic.{◌⊎◌, inl, inr}
@@ -14,7 +14,7 @@ use Rattle.filters.specs.declared.FilterType.TheVariants.{Box, Bilinear, Catmull
 use Rattle.sheet.specs.Keys.{key_kind, kind_name, newline}
 use Rattle.sheet.specs.Text.{kind_text}
 use Rattle.text.specs.Words.{common}
-use Rattle.scan.specs.Form.{Form, Found, Stopped, Apart}
+use Rattle.scan.specs.Form.{Found, Stopped, Apart}
 use Rattle.scan.specs.Forms.{fixed, and_then}
 use Rattle.text.proofs.WordLaws.{common_same, common_other}
 use Rattle.scan.proofs.CommonLaws.{common_append, common_right, common_whole}
@@ -66,10 +66,10 @@ either a b = by_order (ltb a b) refl
     by_order false h = let l = ltb-false a b h in inl (omega arith)
 
 module _ (text : List ℕ) (at a b c d : ℕ) (e-a : a ≡ common (drop at text) (kind_name Box ++ newline)) (e-b : b ≡ common (drop at text) (kind_name Bilinear ++ newline)) (e-c : c ≡ common (drop at text) (kind_name CatmullRom ++ newline)) (e-d : d ≡ common (drop at text) (kind_name Mitchell ++ newline)) where
-  abbrev some-name : Type 0
-  some-name = (kind : FilterType) × Unit {0} × (at + common (drop at text) (kind_name kind ++ newline) ≡ at + max (max a b) (max c d))
+  abbrev some_name : Type 0
+  some_name = (kind : FilterType) × Unit {0} × (at + common (drop at text) (kind_name kind ++ newline) ≡ at + max (max a b) (max c d))
 
-  pick : (max (max a b) (max c d) ≡ max a b) ⊎ (max (max a b) (max c d) ≡ max c d) → (max a b ≡ a) ⊎ (max a b ≡ b) → (max c d ≡ c) ⊎ (max c d ≡ d) → some-name
+  pick : (max (max a b) (max c d) ≡ max a b) ⊎ (max (max a b) (max c d) ≡ max c d) → (max a b ≡ a) ⊎ (max a b ≡ b) → (max c d ≡ c) ⊎ (max c d ≡ d) → some_name
   pick (inl h) (inl g) k = (Box, tt, ap (λ (n : ℕ). at + n) (sym e-a ∙ sym g ∙ sym h))
   pick (inl h) (inr g) k = (Bilinear, tt, ap (λ (n : ℕ). at + n) (sym e-b ∙ sym g ∙ sym h))
   pick (inr h) g (inl k) = (CatmullRom, tt, ap (λ (n : ℕ). at + n) (sym e-c ∙ sym k ∙ sym h))

@@ -1,11 +1,10 @@
 -- The beginning of a window's line, and the whole line. Cited by `take_open`, `scan_window` and `scan_windows`. Assumes nothing.
-use mathlib.Core.Path.{◌≡◌, refl, sym, ap, ◌∙◌, subst}
+use mathlib.Core.Path.{◌≡◌, refl, sym, ap, ◌∙◌}
 use mathlib.Core.List.{List, [], ◌∷◌, ◌++◌, append_assoc}
-use Prim.Native.Nat.{ℕ, suc, ◌+◌, ◌-◌, ◌≤◌, ◌<◌, ◌^◌, min}
+use Prim.Native.Nat.{ℕ, ◌+◌, ◌-◌, ◌≤◌, ◌<◌, ◌^◌, min}
 use native.Mathlib.Nat.{le_refl}
 use native.Mathlib.Omega.{arith}
-use lib.Dec.{lit<}
-use lib.IntN.{ℤ, pos}
+use lib.IntN.{ℤ}
 use lib.ListN.{length, drop}
 use Rattle.text.specs.Text.{decimal, field_text}
 use Rattle.sheet.specs.Keys.{key_line, equals, comma, colon}
@@ -13,11 +12,11 @@ use Rattle.sheet.specs.Text.{open_text}
 use Rattle.scan.specs.declared.Place.{Place}
 use Rattle.scan.specs.declared.Place.TheVariants.{Past, Stop}
 use Rattle.scan.specs.Form.{Form, Found, Stopped, Apart}
-use Rattle.scan.specs.Forms.{and_then, run, runText, RunGood}
+use Rattle.scan.specs.Forms.{and_then, run}
 use Rattle.scan.specs.Number.{fields, numbers, NoDigit}
 use Rattle.scan.specs.Answer.{Passes}
 use Rattle.scan.proofs.FormLaws.{found_then, stopped_first, stopped_then, stopped_same, apart_then, apart_run, run_of}
-use Rattle.scan.proofs.ApartLaws.{apart_fields, apart_numbers}
+use Rattle.scan.proofs.ApartLaws.{apart_numbers}
 use Rattle.sheet_scan.specs.Lines.{Row, weight_item, open_line, window_line}
 use Rattle.sheet_scan.proofs.RowLaws.{apart_item, item_zero}
 

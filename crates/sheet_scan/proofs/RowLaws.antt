@@ -1,12 +1,10 @@
 -- The forms of weights and windows: apart, and each can be completed. Cited by the scanners of windows. Assumes nothing.
-use mathlib.Core.Path.{◌≡◌, refl, sym, ap, ◌∙◌, subst}
 use mathlib.Core.Bool.{Bool, true, false, cond}
-use mathlib.Core.List.{List, [], ◌∷◌, ◌++◌, append_assoc}
-use Prim.Native.Nat.{ℕ, suc, ◌+◌, ◌-◌, ◌≤◌, ◌<◌, ◌^◌}
+use Prim.Native.Nat.{ℕ, suc, ◌≤◌, ◌<◌, ◌^◌}
 use native.Mathlib.Omega.{arith}
 use lib.Dec.{eqb}
 use lib.IntN.{ℤ, pos}
-use Rattle.scan.specs.Form.{Form, Apart}
+use Rattle.scan.specs.Form.{Apart}
 use Rattle.scan.specs.Number.{Inside, NoDigit}
 use Rattle.scan.proofs.ApartLaws.{apart_signeds}
 use Rattle.sheet_scan.specs.Lines.{weight_item}

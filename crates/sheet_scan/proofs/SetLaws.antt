@@ -1,31 +1,26 @@
 -- A sheet is its head lines and its windows' lines: the set that lines say is accepted, and an accepted set's text is its lines'. Cited by the laws of whole
 -- sheets. Assumes nothing.
 use mathlib.Core.Path.{◌≡◌, refl, sym, ap, ◌∙◌, subst}
-use mathlib.Core.Bool.{Bool, true, false, cond, not, ◌||◌}
-use mathlib.Core.List.{List, [], ◌∷◌, ◌++◌, append_assoc}
-use mathlib.Core.Logic.{◌⊎◌, inl, inr}
-use Prim.Native.Nat.{ℕ, zero, suc, ◌+◌, ◌*◌, ◌≤◌, ◌<◌}
+use mathlib.Core.Bool.{Bool, false}
+use mathlib.Core.List.{List}
+use Prim.Native.Nat.{ℕ, ◌+◌, ◌*◌, ◌≤◌, ◌<◌}
 use native.Mathlib.Nat.{zero-add}
 use native.Mathlib.Omega.{arith}
-use lib.Arith.{digits_div, digits_mod}
-use lib.Dec.{eqb, ltb}
 use lib.IntN.{ℤ, pos}
 use lib.ListN.{length, get_or, get_or-eq_default}
-use lib.Seq.{ext_get_or}
 use borrow.Author.Tests.{le-ltb, eq-eqb}
 use Rattle.lists.specs.Tab.{tab, grid, any}
-use Rattle.lists.proofs.TabLaws.{length_tab, get_d_tab, tab_get_d, tab_ext, grid_at, row_end}
+use Rattle.lists.proofs.TabLaws.{length_tab, get_d_tab, grid_at, row_end}
 use Rattle.lists.proofs.AnyLaws.{none_any}
-use Rattle.lists.proofs.BoolLaws.{or_left, or_right}
 use Rattle.lists.specs.Ranges.{outside}
-use Rattle.windows.specs.Fit.{bad_counts, bad_window, badAt, badExcesses}
+use Rattle.windows.specs.Fit.{bad_counts, bad_window, bad_at, bad_excesses}
 use Rattle.windows.specs.Set.{Stored, windows, start, size, weight, excess, excess_of}
 use Rattle.excesses.proofs.SameExcess.{excess_ext}
 use Rattle.excesses.proofs.RightLaws.{right_excesses}
 use Rattle.windows.specs.Store.{largest_precision}
 use Rattle.scan.specs.Number.{Inside}
 use Rattle.scan.specs.Forms.{RunGood}
-use Rattle.scan.proofs.RunText.{run_long, run_each, run_all}
+use Rattle.scan.proofs.RunText.{run_long, run_each}
 use Rattle.sheet_scan.specs.Language.{Taken, store_named_value, limit_of_value, Accepted, Blank}
 use Rattle.sheet_scan.specs.Lines.{Row, weight_item, window_line, Between}
 use Rattle.sheet_scan.specs.Rows.{no_row, start_at, size_at, slot_at, excess_at, set_of_rows}
@@ -78,8 +73,8 @@ module _ (lines window limit precision : ℕ) (rows : List Row) (good : RunGood 
       let g = each i l in
       rw (start_is i l, size_is i l, inside_range 1 window (size_at rows i) g.0 g.1, le-ltb lines (start_at rows i + size_at rows i) g.2)
 
-  all_fit : any (length s.set.layout.starts) (badAt s.set.layout) ≡ false
-  all_fit = none_any (badAt s.set.layout) (length s.set.layout.starts) (λ i l. window_fits i (let count = length_tab 0 (length rows) (start_at rows) in omega arith))
+  all_fit : any (length s.set.layout.starts) (bad_at s.set.layout) ≡ false
+  all_fit = none_any (bad_at s.set.layout) (length s.set.layout.starts) (λ i l. window_fits i (let count = length_tab 0 (length rows) (start_at rows) in omega arith))
 
   counts_fit : 1 ≤ window → window ≤ 32769 → bad_counts window (length s.set.weights) (length s.set.layout.starts) (length s.set.layout.sizes) ≡ false
   counts_fit l h =
@@ -92,7 +87,7 @@ module _ (lines window limit precision : ℕ) (rows : List Row) (good : RunGood 
       ∙ excess_ext (weight s.set (pos 0) i) (slot_at rows i) precision (size_at rows i) (λ k m. slot_is i k l (let high = (each i l).1 in omega arith))
       ∙ sym (get_d_tab 0 (length rows) (excess_at precision rows) i (pos 0) l ∙ ap (excess_at precision rows) (zero-add i))
 
-  excesses_fit : badExcesses s ≡ false
+  excesses_fit : bad_excesses s ≡ false
   excesses_fit =
       let count = length_tab 0 (length rows) (start_at rows) in
       right_excesses s (length_tab 0 (length rows) (excess_at precision rows) ∙ sym count) (λ i l. excess_is i (omega arith))

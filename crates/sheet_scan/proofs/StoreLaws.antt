@@ -1,9 +1,9 @@
 -- The store's line and the precision's. Cited by `take_bits`, `take_store` and `scan_store`. Assumes nothing.
-use mathlib.Core.Path.{◌≡◌, refl, sym, ap, ◌∙◌, subst}
+use mathlib.Core.Path.{◌≡◌, refl, sym, ap, ◌∙◌}
 use mathlib.Core.Bool.{Bool, true, false, cond}
-use mathlib.Core.List.{List, [], ◌∷◌, ◌++◌, append_assoc}
-use mathlib.Core.Logic.{◌⊎◌, inl, inr}
-use Prim.Native.Nat.{ℕ, ◌+◌, ◌≤◌, ◌<◌, ◌^◌, max}
+use mathlib.Core.List.{List, [], ◌∷◌, ◌++◌}
+use mathlib.Core.Logic.{inl, inr}
+use Prim.Native.Nat.{ℕ, ◌+◌, ◌≤◌, ◌<◌, max}
 use native.Mathlib.Nat.{le_refl}
 use native.Mathlib.Omega.{arith}
 use lib.Dec.{eqb, ltb, lit≤, lit<}
@@ -27,7 +27,7 @@ use Rattle.scan.proofs.FieldLaws.{apart_key}
 use Rattle.scan.proofs.ApartLaws.{apart_fields}
 use Rattle.sheet_scan.specs.declared.StoreLines.{StoreLines}
 use Rattle.sheet_scan.specs.Language.{Taken, store_named_value}
-use Rattle.sheet_scan.specs.Lines.{bits_line, store_line, store_lines, Between}
+use Rattle.sheet_scan.specs.Lines.{bits_line, store_line, store_lines}
 use Rattle.sheet_scan.proofs.HeadLaws.{line_is, line, no_digit}
 
 -- all of a value's text is shared: it is there

@@ -1,10 +1,9 @@
 -- A whole sheet, from its parts: what is found and where it stops; at most one sheet at a place. Cited by `scan_rest` and by the laws of the readers. Assumes nothing.
 use mathlib.Core.Path.{◌≡◌, refl, sym, ap, ◌∙◌, subst}
 use mathlib.Core.Bool.{Bool, true, false, cond}
-use mathlib.Core.List.{List, [], ◌∷◌, ◌++◌, append_assoc}
-use mathlib.Core.Logic.{◌⊎◌, inl, inr}
+use mathlib.Core.List.{List, ◌++◌, append_assoc}
+use mathlib.Core.Logic.{inl, inr}
 use Prim.Native.Nat.{ℕ, ◌+◌, ◌≤◌, ◌<◌, ◌^◌}
-use native.Mathlib.Nat.{le_refl}
 use native.Mathlib.Omega.{arith}
 use lib.Dec.{eqb, lit≤, lit<}
 use lib.IntN.{ℤ}
@@ -14,21 +13,21 @@ use Rattle.windows.specs.Set.{Stored, windows}
 use Rattle.windows.specs.Store.{store16, store32, weight_bits}
 use Rattle.sheet.specs.Text.{kind_text, sides_text, store_text, head_text, windows_text, excess_text, sheet_text_value}
 use Rattle.scan.specs.Form.{Form, Found, Stopped, Apart}
-use Rattle.scan.specs.Forms.{fixed, and_then, run, runText, RunGood}
+use Rattle.scan.specs.Forms.{fixed, and_then, run_text, RunGood}
 use Rattle.scan.proofs.FormLaws.{found_then, stopped_first, stopped_then, stopped_same, apart_then, apart_run, run_of}
 use Rattle.scan.proofs.TailLaws.{tail_found, tail_no_first, tail_other, apart_tail}
 use Rattle.scan.proofs.RunText.{run_long}
 use Rattle.sheet_scan.specs.declared.Sizes.{Sizes}
 use Rattle.sheet_scan.specs.declared.StoreLines.{StoreLines}
-use Rattle.sheet_scan.specs.Language.{Taken, store_named_value, limit_of_value, Accepted, Blank, Whole, sheets}
+use Rattle.sheet_scan.specs.Language.{Taken, store_named_value, limit_of_value, Accepted, Whole, sheets}
 use Rattle.sheet_scan.specs.Lines.{Row, size_lines, store_lines, window_line}
 use Rattle.sheet_scan.specs.Whole.{lines_of, excess_line, body_lines, rest_lines}
-use Rattle.sheet_scan.specs.Rows.{start_at, excesses_of, set_of_rows}
+use Rattle.sheet_scan.specs.Rows.{start_at, set_of_rows}
 use Rattle.sheet_scan.proofs.LineText.{Says, windows_text_fact}
 use Rattle.sheet_scan.proofs.SetLaws.{rows_say, rows_blank, rows_accepted, rows_of}
 use Rattle.sheet_scan.proofs.BackLaws.{fit, precise, set_says, set_good, excesses_back, set_back}
 use Rattle.sheet_scan.proofs.HeadLaws.{apart_sizes}
-use Rattle.sheet_scan.proofs.StoreLaws.{apart_lines, most_least}
+use Rattle.sheet_scan.proofs.StoreLaws.{apart_lines}
 use Rattle.sheet_scan.proofs.OpenLaws.{apart_window, window_one}
 
 abbrev pub parts : Bool → Form ((v : Sizes) × ((w : StoreLines) × List Row))
@@ -47,7 +46,7 @@ regroup : (k s t r x : List ℕ) → k ++ s ++ t ++ r ++ x ≡ k ++ s ++ (t ++ (
 regroup k s t r x = simp append_assoc
 
 -- a set's text, given its rows
-text_of : (w : Whole) (limit : ℕ) (rows : List Row) → weight_bits (store_named_value w.bits) ≡ w.bits → Says w.set rows → sheet_text_value w.kind (store_named_value w.bits) w.set ≡ kind_text w.kind ++ sides_text w.set.set.layout.lines (windows w.set.set.layout) w.set.set.layout.window_size_value ++ (store_text w.bits w.set.precision ++ (runText (window_line w.set.set.layout.lines w.set.set.layout.window_size_value limit) 0 rows ++ excess_text w.set.excesses))
+text_of : (w : Whole) (limit : ℕ) (rows : List Row) → weight_bits (store_named_value w.bits) ≡ w.bits → Says w.set rows → sheet_text_value w.kind (store_named_value w.bits) w.set ≡ kind_text w.kind ++ sides_text w.set.set.layout.lines (windows w.set.set.layout) w.set.set.layout.window_size_value ++ (store_text w.bits w.set.precision ++ (run_text (window_line w.set.set.layout.lines w.set.set.layout.window_size_value limit) 0 rows ++ excess_text w.set.excesses))
 unfolding sheet_text_value head_text
 text_of w limit rows e says =
     let k = kind_text w.kind in
@@ -55,7 +54,7 @@ text_of w limit rows e says =
     let t = store_text w.bits w.set.precision in
     let x = excess_text w.set.excesses in
     ap (λ (n : ℕ). k ++ s ++ store_text n w.set.precision ++ windows_text w.set.set.layout.starts w.set.set.layout.sizes w.set.set.layout.window_size_value w.set.set.weights ++ x) e
-    ∙ ap (λ (r : List ℕ). k ++ s ++ t ++ r ++ x) (windows_text_fact w.set.set.layout.lines limit w.set rows says) ∙ regroup k s t (runText (window_line w.set.set.layout.lines w.set.set.layout.window_size_value limit) 0 rows) x
+    ∙ ap (λ (r : List ℕ). k ++ s ++ t ++ r ++ x) (windows_text_fact w.set.set.layout.lines limit w.set rows says) ∙ regroup k s t (run_text (window_line w.set.set.layout.lines w.set.set.layout.window_size_value limit) 0 rows) x
 
 module _ (wide : Bool) (v : Sizes) (w : StoreLines) (rows : List Row) (good : (parts wide).Good (v, (w, rows))) where
   long : length rows ≡ v.windows
@@ -76,7 +75,7 @@ module _ (wide : Bool) (v : Sizes) (w : StoreLines) (rows : List Row) (good : (p
   pub whole_text : (sheets wide).text (whole_of_value v w rows) ≡ (parts wide).text (v, (w, rows))
   whole_text =
       text_of (whole_of_value v w rows) (limit_of_value w.bits) rows (named_bits wide w.bits good.1.0.0) (rows_say v.lines v.window_size (limit_of_value w.bits) w.precision rows rows_good)
-      ∙ ap (λ (n : ℕ). kind_text v.kind ++ sides_text v.lines n v.window_size ++ (store_text w.bits w.precision ++ (runText (window_line v.lines v.window_size (limit_of_value w.bits)) 0 rows ++ excess_line w.precision rows))) (sym outs_is)
+      ∙ ap (λ (n : ℕ). kind_text v.kind ++ sides_text v.lines n v.window_size ++ (store_text w.bits w.precision ++ (run_text (window_line v.lines v.window_size (limit_of_value w.bits)) 0 rows ++ excess_line w.precision rows))) (sym outs_is)
 
 -- the parts of a sheet
 abbrev pub sizes_of : Whole → Sizes

@@ -25,18 +25,18 @@ abbrev pub ScansStore : Form StoreLines → List ℕ → ℕ → StoreAt → Typ
 ScansStore F text at (Stored v next) = Found F text at v next
 ScansStore F text at (NoStore stop) = Stopped F text at stop
 
-abbrev pub kindPlace : Kind → ℕ
-kindPlace (Named kind next) = next
-kindPlace (NoName stop) = stop
+abbrev pub kind_place : Kind → ℕ
+kind_place (Named kind next) = next
+kind_place (NoName stop) = stop
 
 abbrev pub ScansOpen : Form (ℕ × ℕ) → List ℕ → ℕ → Open → Type 0
 ScansOpen F text at (Window start size next) = Found F text at (start, size) next
 ScansOpen F text at (NoWindow stop) = Stopped F text at stop
 
-abbrev pub storePlace : StoreAt → ℕ
-storePlace (Stored v next) = next
-storePlace (NoStore stop) = stop
+abbrev pub store_place : StoreAt → ℕ
+store_place (Stored v next) = next
+store_place (NoStore stop) = stop
 
-abbrev pub sizesPlace : SizesAt → ℕ
-sizesPlace (Sized v next) = next
-sizesPlace (NoSizes stop) = stop
+abbrev pub sizes_place : SizesAt → ℕ
+sizes_place (Sized v next) = next
+sizes_place (NoSizes stop) = stop

@@ -1,12 +1,12 @@
 -- The acceptable texts: what the writer writes for a set that the u16 pass takes, with weights of the store's type. Cited by the reader's answer and by the
 -- promises about it. Definitions only. Assumes nothing.
-use Rattle.std.specs.Prelude.{◌≡◌, Bool, true, false, cond, List, ◌++◌, ◌⊎◌, ℕ, ◌+◌, ◌^◌, ◌≤◌, ◌<◌, eqb, ℤ, pos, length, take}
+use Rattle.std.specs.Prelude.{◌≡◌, Bool, true, false, cond, List, ◌++◌, ◌⊎◌, ℕ, ◌^◌, ◌≤◌, ◌<◌, eqb, pos, length, take}
 use Rattle.lists.specs.Ranges.{bad_sides_value}
 use Rattle.filters.specs.declared.FilterType.{FilterType}
 use Rattle.windows.specs.declared.Store.{Store}
 use Rattle.windows.specs.Set.{Stored, windows, size, weight}
 use Rattle.windows.specs.Store.{store16, store32}
-use Rattle.windows.specs.Fit.{badStored}
+use Rattle.windows.specs.Fit.{bad_stored}
 use Rattle.sheet.specs.Text.{sheet_text_value}
 use Rattle.scan.specs.Form.{Form}
 use Rattle.scan.specs.Number.{Inside}
@@ -27,7 +27,7 @@ limit_of_value bits = 2 ^ (store_named_value bits).limit
 pub record Accepted (wide : Bool) (bits : ℕ) (s : Stored) : Type 0 where
   pub taken : Taken wide bits
   pub sides : bad_sides_value s.set.layout.lines (windows s.set.layout) ≡ false
-  pub fits : badStored s (store_named_value bits) ≡ false
+  pub fits : bad_stored s (store_named_value bits) ≡ false
   pub inside : (i k : ℕ) → i < windows s.set.layout → k < size s.set.layout i → Inside (limit_of_value bits) (weight s.set (pos 0) i k)
 
 -- the slots past each window's size are 0

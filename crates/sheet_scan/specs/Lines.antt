@@ -1,12 +1,12 @@
 -- The forms of a sheet's lines, in the writer's words. Cited by the scanners. Definitions only. Assumes nothing.
-use Rattle.std.specs.Prelude.{◌≡◌, Bool, cond, List, [], ◌∷◌, ◌++◌, ℕ, suc, ◌+◌, ◌≤◌, ◌<◌, eqb, ℤ, length}
+use Rattle.std.specs.Prelude.{Bool, cond, List, ◌++◌, ℕ, suc, ◌+◌, ◌≤◌, eqb, ℤ}
 use Rattle.text.specs.Text.{decimal, line_text}
 use Rattle.filters.specs.declared.FilterType.{FilterType}
 use Rattle.windows.specs.Store.{largest_precision}
 use Rattle.sheet.specs.Keys.{kind_name, newline, key_store}
 use Rattle.sheet.specs.Text.{kind_text, sides_text, store_text, open_text}
 use Rattle.scan.specs.Form.{Form}
-use Rattle.scan.specs.Forms.{runText, RunGood, run}
+use Rattle.scan.specs.Forms.{run_text, RunGood, run}
 use Rattle.scan.specs.Number.{signeds}
 use Rattle.sheet_scan.specs.declared.Sizes.{Sizes}
 use Rattle.sheet_scan.specs.declared.StoreLines.{StoreLines}
@@ -66,7 +66,7 @@ pub record Row : Type 0 where
 abbrev pub window_line : ℕ → ℕ → ℕ → ℕ → Form Row
 window_line lines window_size_value limit i = record {
   Good = λ r. (1 ≤ r.size) × (r.size ≤ window_size_value) × (r.start + r.size ≤ lines) × RunGood (weight_item limit r.size) 0 r.size r.weights;
-  text = λ r. open_text i r.start r.size ++ runText (weight_item limit r.size) 0 r.weights;
+  text = λ r. open_text i r.start r.size ++ run_text (weight_item limit r.size) 0 r.weights;
 }
 
 -- a line for each of the windows

@@ -1,6 +1,6 @@
 -- The lines that go with the head lines, and what is scanned after the size lines. Cited by `scan_rest` and the functions that fill the lent lists.
 -- Definitions only. Assumes nothing.
-use Rattle.std.specs.Prelude.{◌≡◌, Bool, List, ℕ, ℤ, pos, get_or}
+use Rattle.std.specs.Prelude.{Bool, List, ℕ, ℤ, pos, get_or}
 use Rattle.sheet.specs.Text.{excess_text}
 use Rattle.scan.specs.Form.{Form, Found, Stopped}
 use Rattle.scan.specs.Forms.{and_then, tailed}

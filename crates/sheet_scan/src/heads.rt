@@ -4,7 +4,7 @@ ghost use Rattle.windows.specs.Store.{largest_precision};
 ghost use Rattle.scan.specs.Answer.{Scans};
 ghost use Rattle.sheet_scan.specs.Language.{store_named_value};
 ghost use Rattle.sheet_scan.specs.Lines.{size_lines, store_line, store_lines, bits_line};
-ghost use Rattle.sheet_scan.specs.Answers.{ScansSizes, ScansStore, kindPlace};
+ghost use Rattle.sheet_scan.specs.Answers.{ScansSizes, ScansStore, kind_place};
 
 use crate::names::{further, take_kind};
 use crate::{Kind, Sizes, SizesAt, StoreAt, StoreLines};
@@ -15,7 +15,7 @@ use windows::{STORE16, STORE32, Store};
 
 // The place of an answer.
 fn kind_stop(k: Kind) -> usize
-    ensures answer { result ≡ kindPlace k }
+    ensures answer { result ≡ kind_place k }
 {
     match k {
         Kind::Named(_, next) => next,

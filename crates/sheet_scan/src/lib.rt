@@ -13,7 +13,7 @@ pub use rest::{limit_of, scan_rest};
 pub use rows::{item_end, place_stop, scan_weights, take_open};
 
 // What the first four lines of a sheet say.
-#[derive(Drop)]
+#[derive(Clone, Copy)]
 pub struct Sizes {
     pub kind: FilterType,
     pub lines: u32,
@@ -22,7 +22,7 @@ pub struct Sizes {
 }
 
 // What its next two lines say: the bits of a weight, 16 or 32, and the precision.
-#[derive(Drop)]
+#[derive(Clone, Copy)]
 pub struct StoreLines {
     pub bits: u32,
     pub precision: u32,

@@ -2,7 +2,7 @@
 ghost use Rattle.std.specs.Prelude.{◌≡◌, ◌≤◌, length};
 ghost use Rattle.sheet_scan.specs.Language.{limit_of_value};
 ghost use Rattle.sheet_scan.specs.Lines.{size_lines};
-ghost use Rattle.sheet_scan.specs.Answers.{storePlace};
+ghost use Rattle.sheet_scan.specs.Answers.{store_place};
 ghost use Rattle.sheet_scan.specs.Whole.{ScansRest};
 
 use crate::heads::scan_store;
@@ -12,7 +12,7 @@ use scan::Place;
 
 // The place of an answer.
 fn store_stop(s: StoreAt) -> usize
-    ensures answer { result ≡ storePlace s }
+    ensures answer { result ≡ store_place s }
 {
     match s {
         StoreAt::Stored(_, next) => next,

@@ -1,9 +1,9 @@
 -- For the customer: the word of the clip says which side was cut off, and `none` exactly where the shifted value is inside; the final number is then 0, the largest sample,
 -- or the shifted value itself. Cited by docs/CONTRACTS.md. Assumes nothing.
-use mathlib.Core.Path.{◌≡◌, refl, sym, ap, ◌∙◌}
+use mathlib.Core.Path.{◌≡◌, refl, sym, ap}
 use mathlib.Core.Bool.{Bool, true, false, cond}
 use mathlib.Core.List.{List}
-use Prim.Native.Nat.{ℕ, ◌≤◌, ◌<◌, min}
+use Prim.Native.Nat.{ℕ, ◌≤◌}
 use native.Mathlib.Omega.{arith}
 use lib.IntN.{ℤ, pos, negsuc}
 use lib.ListN.{get_or}

@@ -5,7 +5,7 @@ use mathlib.Core.List.{List, [], ◌∷◌, ◌++◌}
 use Prim.Native.Nat.{ℕ}
 use lib.IntN.{pos}
 use lib.ListN.{length}
-use Rattle.integers.specs.Sums.{sum, total, shifted, rounded, clipped}
+use Rattle.integers.specs.Sums.{sum, shifted, rounded, clipped}
 use Rattle.text.specs.Text.{digit_count_value, decimal, signed, field_text, line_text}
 use Rattle.signed_lines.specs.Lines.{number_text}
 use Rattle.windows.specs.Set.{excess, weight, sample}

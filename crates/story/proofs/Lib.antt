@@ -4,6 +4,8 @@ pub mod RowLaws
 pub mod Lines
 pub mod Clip
 pub mod Final
+pub mod FinalTold
 pub mod Sure
+pub mod Tests
 pub mod Rows
 pub mod Example

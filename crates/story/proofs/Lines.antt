@@ -16,7 +16,7 @@ use Rattle.signed_lines.specs.Lines.{number_text}
 use Rattle.story_text.specs.Keys.{key_total, key_half, key_shifted, key_clip, key_final}
 use Rattle.story_text.specs.Text.{camera_text, lines_text, clip_word, clip_text, end_text, window_text}
 use Rattle.story.specs.Answer.{text_of}
-use Rattle.story.specs.Story.{rows_of, camera_row, Named, weightOf, sample_of, productOf, total_of, shiftedOf, storyRows}
+use Rattle.story.specs.Story.{rows_of, camera_row, Named, weight_of, sample_of, product_of, total_of, shifted_of, story_rows}
 use Rattle.story.proofs.RowLaws.{cut_all, cut_five, plain_append, plain_signed, plain_field, plain_camera, plain_word}
 
 -- the five lines after the camera lines
@@ -29,15 +29,15 @@ end_rows t half v final =
 
 module _ (s : Stored) (src : List ℕ) (row i j : ℕ) where
   -- the story line by line
-  pub story_rows : rows_of (text_of s src row i j) ≡ storyRows s src row i j (total_of s src row i j) (value_at 65535 s (frame 0 src row) i j)
+  pub story_rows_fact : rows_of (text_of s src row i j) ≡ story_rows s src row i j (total_of s src row i j) (value_at 65535 s (frame 0 src row) i j)
   unfolding window_text lines_text camera_text
-  story_rows =
+  story_rows_fact =
       let l = s.set.layout in
-      let line : ℕ → List ℕ = λ k. camera_row (start l i + k) (weightOf s src row i j k) (sample_of s src row i j k) in
+      let line : ℕ → List ℕ = λ k. camera_row (start l i + k) (weight_of s src row i j k) (sample_of s src row i j k) in
       let value = value_at 65535 s (frame 0 src row) i j in
-      let end = end_text (total_of s src row i j) (2 ^ (s.precision - 1)) (shiftedOf s src row i j) value in
-      cut_all line (size l i) end (λ k. plain_camera (start l i + k) (weightOf s src row i j k) (sample_of s src row i j k))
-      ∙ ap (λ (rest : List (List ℕ)). tab 0 (size l i) line ++ rest) (end_rows (total_of s src row i j) (2 ^ (s.precision - 1)) (shiftedOf s src row i j) value)
+      let end = end_text (total_of s src row i j) (2 ^ (s.precision - 1)) (shifted_of s src row i j) value in
+      cut_all line (size l i) end (λ k. plain_camera (start l i + k) (weight_of s src row i j k) (sample_of s src row i j k))
+      ∙ ap (λ (rest : List (List ℕ)). tab 0 (size l i) line ++ rest) (end_rows (total_of s src row i j) (2 ^ (s.precision - 1)) (shifted_of s src row i j) value)
 
   -- the camera lines named are those of the window and no others
   pub lines_named : (c : ℕ) → let l = s.set.layout in Exactly (Named (start l i) (size l i) c) ((start l i ≤ c) × (c < start l i + size l i))
@@ -47,7 +47,7 @@ module _ (s : Stored) (src : List ℕ) (row i j : ℕ) where
   )
 
   -- the products add up to the total of the pass's definition, and its value is that total, rounded and clipped
-  pub products-add-up :
-      (sum (productOf s src row i j) (size s.set.layout i) ≡ total_of s src row i j)
-      × (value_at 65535 s (frame 0 src row) i j ≡ clipped 65535 (shifted s.precision (sum (productOf s src row i j) (size s.set.layout i))))
-  products-add-up = (refl, refl)
+  pub products_add_up :
+      (sum (product_of s src row i j) (size s.set.layout i) ≡ total_of s src row i j)
+      × (value_at 65535 s (frame 0 src row) i j ≡ clipped 65535 (shifted s.precision (sum (product_of s src row i j) (size s.set.layout i))))
+  products_add_up = (refl, refl)

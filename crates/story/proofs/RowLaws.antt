@@ -2,7 +2,7 @@
 use mathlib.Core.Path.{◌≡◌, refl, sym, ap, ◌∙◌}
 use mathlib.Core.Bool.{Bool, true, false, cond, not, ◌&&◌}
 use mathlib.Core.List.{List, [], ◌∷◌, ◌++◌, append_assoc, append-nil}
-use Prim.Native.Nat.{ℕ, zero, suc, ◌+◌, ◌≤◌}
+use Prim.Native.Nat.{ℕ, zero, suc, ◌≤◌}
 use native.Mathlib.Nat.{zero-add}
 use native.Mathlib.Numerals.{add-one}
 use native.Mathlib.Omega.{arith}
@@ -17,7 +17,7 @@ use Rattle.text.specs.Text.{joined, digit_count_value, digit_at_value, decimal, 
 use Rattle.sheet.specs.Keys.{comma, newline}
 use Rattle.story_text.specs.Keys.{key_line, word_low, word_high, word_none}
 use Rattle.story_text.specs.Text.{product, part_text, clip_word}
-use Rattle.story.specs.Story.{onto, rows_of, camera_row}
+use Rattle.story.specs.Story.{rows_of, camera_row}
 
 -- no byte of it is a newline
 abbrev pub plain : List ℕ → Bool

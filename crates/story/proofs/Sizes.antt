@@ -1,18 +1,17 @@
 -- A story's length is far below 2^64, so that a run over any list counts it whole. Cited by `tell`. Assumes nothing.
 use mathlib.Core.Path.{◌≡◌}
 use mathlib.Core.Bool.{Bool, true, false, cond}
-use mathlib.Core.List.{List}
 use Prim.Native.Nat.{ℕ, ◌+◌, ◌-◌, ◌*◌, ◌^◌, ◌≤◌, ◌<◌}
 use native.Mathlib.Omega.{arith}
 use lib.IntN.{ℤ, pos}
 use lib.ListN.{length, length-append}
 use lib.Signed.{lt_z}
 use Rattle.integers.specs.Sums.{total, rounded, value}
-use Rattle.text.specs.Text.{reached, signed, field_text, line_text}
+use Rattle.text.specs.Text.{reached, signed}
 use Rattle.text.proofs.TextLaws.{reached_whole, signed_small, joined_small, field_small, line_small}
 use Rattle.signed_lines.proofs.LineLaws.{number_small}
-use Rattle.sheet.specs.Keys.{comma, newline}
-use Rattle.story_text.specs.Keys.{key_line, key_total, key_half, key_shifted, key_clip, key_final, word_low, word_high, word_none}
+use Rattle.sheet.specs.Keys.{comma}
+use Rattle.story_text.specs.Keys.{key_line, key_total, key_half, key_shifted, key_final, word_low, word_high, word_none}
 use Rattle.story_text.specs.Text.{product, part_text, camera_text, camera_at, lines_text, clip_word, clip_text, end_text, window_text}
 
 part_small : (z : ℤ) → length (part_text z) ≤ 22

@@ -15,7 +15,7 @@ use Rattle.text.proofs.TextLaws.{laid_over}
 use Rattle.refusal.specs.declared.Refusal.TheVariants.{BadSide, DoesNotFit, NoRoom}
 use Rattle.windows.specs.Set.{Layout, Stored, windows, start, size}
 use Rattle.windows.specs.Store.{store32}
-use Rattle.windows.specs.Fit.{badStored, Fits}
+use Rattle.windows.specs.Fit.{bad_stored, Fits}
 use Rattle.sheet.specs.Answer.{no_room}
 use Rattle.vertical.specs.Frame.{bad_size, bad_frame}
 use Rattle.story_text.specs.There.{There}
@@ -46,11 +46,11 @@ module _ (s : Stored) (src : List ℕ) (row i j : ℕ) (old : List ℕ) where
   side_refused h = rw h (refl, refl)
 
   module _ (size : bad_size s.set.layout.lines (windows s.set.layout) row ≡ false) where
-    pub set_refused : badStored s store32 ≡ true → Meets (Refused DoesNotFit) old
+    pub set_refused : bad_stored s store32 ≡ true → Meets (Refused DoesNotFit) old
     unfolding by_case
     set_refused h = rw (size, h) (refl, refl)
 
-    module _ (stored : badStored s store32 ≡ false) where
+    module _ (stored : bad_stored s store32 ≡ false) where
       pub frame_refused : bad_frame (length src) s.set.layout.lines row ≡ true → Meets (Refused DoesNotFit) old
       unfolding by_case
       frame_refused h = rw (size, stored, h) (refl, refl)

@@ -7,7 +7,7 @@ use Rattle.refusal.specs.declared.Refusal.TheVariants.{BadSide, DoesNotFit, NoRo
 use Rattle.refusal.specs.Refusal.{number_of as refusalNumber}
 use Rattle.windows.specs.Set.{Stored, windows}
 use Rattle.windows.specs.Store.{store32}
-use Rattle.windows.specs.Fit.{badStored}
+use Rattle.windows.specs.Fit.{bad_stored}
 use Rattle.sheet.specs.Answer.{no_room}
 use Rattle.vertical.specs.Frame.{frame, bad_size, bad_frame}
 use Rattle.story_text.specs.Text.{story_text_value}
@@ -22,7 +22,7 @@ bad_place windows row i j = not (ltb i windows) || not (ltb j row)
 unfoldable pub by_case : {A : Type 0} → Stored → ℕ → ℕ → ℕ → ℕ → ℕ → ℕ → (Refusal → A) → A → A
 by_case s samples row i j room text refused done =
     cond (bad_size s.set.layout.lines (windows s.set.layout) row) (refused BadSide)
-    (cond (badStored s store32) (refused DoesNotFit)
+    (cond (bad_stored s store32) (refused DoesNotFit)
     (cond (bad_frame samples s.set.layout.lines row) (refused DoesNotFit)
     (cond (bad_place (windows s.set.layout) row i j) (refused DoesNotFit)
     (cond (no_room room text) (refused NoRoom)

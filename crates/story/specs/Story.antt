@@ -38,33 +38,33 @@ pub record Inside (M : ℕ) (z : ℤ) : Type 0 where
 
 module _ (s : Stored) (src : List ℕ) (row i j : ℕ) where
   -- line k of the window of display line i: its weight, its sample at column j, their product
-  abbrev pub weightOf : ℕ → ℤ
-  weightOf k = weight s.set (pos 0) i k
+  abbrev pub weight_of : ℕ → ℤ
+  weight_of k = weight s.set (pos 0) i k
 
   abbrev pub sample_of : ℕ → ℕ
   sample_of k = sample s.set.layout (frame 0 src row) i j k
 
-  abbrev pub productOf : ℕ → ℤ
-  productOf k = product (weightOf k) (sample_of k)
+  abbrev pub product_of : ℕ → ℤ
+  product_of k = product (weight_of k) (sample_of k)
 
   -- the pass's total and its shifted value
   abbrev pub total_of : ℤ
-  total_of = total weightOf sample_of (size s.set.layout i)
+  total_of = total weight_of sample_of (size s.set.layout i)
 
-  abbrev pub shiftedOf : ℤ
-  shiftedOf = rounded s.precision weightOf sample_of (size s.set.layout i)
+  abbrev pub shifted_of : ℤ
+  shifted_of = rounded s.precision weight_of sample_of (size s.set.layout i)
 
   -- the camera lines' lines, in line order
-  abbrev pub cameraRows : List (List ℕ)
-  cameraRows = tab 0 (size s.set.layout i) (λ k. camera_row (start s.set.layout i + k) (weightOf k) (sample_of k))
+  abbrev pub camera_rows : List (List ℕ)
+  camera_rows = tab 0 (size s.set.layout i) (λ k. camera_row (start s.set.layout i + k) (weight_of k) (sample_of k))
 
   -- the lines of a story with so much for its total and its final number
-  abbrev pub storyRows : ℤ → ℕ → List (List ℕ)
-  storyRows sum final =
-      cameraRows
+  abbrev pub story_rows : ℤ → ℕ → List (List ℕ)
+  story_rows sum final =
+      camera_rows
       ++ (key_total ++ signed sum)
       ∷ (key_half ++ signed (pos (2 ^ (s.precision - 1))))
-      ∷ (key_shifted ++ signed shiftedOf)
-      ∷ (key_clip ++ clip_word 65535 shiftedOf)
+      ∷ (key_shifted ++ signed shifted_of)
+      ∷ (key_clip ++ clip_word 65535 shifted_of)
       ∷ field_text key_final final
       ∷ []

@@ -25,7 +25,7 @@ use vertical::{Frame, size_fits};
 use windows::{CameraLine, DisplayLine, fills};
 
 // The answer: how many bytes were written, or why none was.
-#[derive(Drop)]
+#[derive(Clone, Copy)]
 pub enum Told {
     Written(u64),
     Refused(Refusal),

@@ -1,7 +1,7 @@
 // The five lines after the camera lines: total, half, shifted value, clip, final number.
 ghost use Rattle.std.specs.Prelude.{◌≡◌, ◌-◌, ◌^◌, ◌≤◌, ◌<◌, nat_abs, ◌+ℤ◌, length};
 ghost use Rattle.std.specs.Int.Signed.{shr_z};
-ghost use Rattle.integers.specs.Sums.{shifted as shiftedOf, clipped};
+ghost use Rattle.integers.specs.Sums.{shifted as shifted_of, clipped};
 ghost use Rattle.text.specs.Text.{laid, reached};
 ghost use Rattle.story_text.specs.Text.{clip_word, clip_text, end_text};
 
@@ -47,8 +47,8 @@ fn shifted(t: i64, h: i64, p: u32) -> i64
 // The five lines of a total at a precision.
 pub(crate) fn put_end(t: i64, p: u32, at: usize, out: &mut [u8]) -> usize
     requires { (1 ≤ p) × (p ≤ 45) × (nat_abs t ≤ 2 ^ 60) }
-    ensures answer { result ≡ reached at (length (end_text t (2 ^ (p - 1)) (shiftedOf p t) (clipped 65535 (shiftedOf p t)))) }
-    ensures written { out.new ≡ laid out.old at (end_text t (2 ^ (p - 1)) (shiftedOf p t) (clipped 65535 (shiftedOf p t))) }
+    ensures answer { result ≡ reached at (length (end_text t (2 ^ (p - 1)) (shifted_of p t) (clipped 65535 (shifted_of p t)))) }
+    ensures written { out.new ≡ laid out.old at (end_text t (2 ^ (p - 1)) (shifted_of p t) (clipped 65535 (shifted_of p t))) }
 {
     let h = half(p);
     let v = shifted(t, h, p);

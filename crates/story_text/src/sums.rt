@@ -3,7 +3,7 @@ ghost use Rattle.std.specs.Prelude.{◌≡◌, ◌+◌, ◌*◌, ◌^◌, ◌≤
 ghost use Rattle.integers.specs.Sums.{total as total_of};
 ghost use Rattle.vertical.specs.Frame.{frame};
 ghost use Rattle.excesses.specs.Slots.{slot_from};
-ghost use Rattle.story_text.specs.Text.{product as productOf};
+ghost use Rattle.story_text.specs.Text.{product as product_of};
 ghost use Rattle.story_text.specs.There.{sample_from, There};
 
 use row_u16::step;
@@ -19,7 +19,7 @@ pub(crate) fn sample_at(src: &[u16], row: u32, column: u32, line: CameraLine) ->
 
 // A weight times a sample: a step of the pass's sum, from 0.
 pub(crate) fn product(weight: i32, sample: u16) -> i64
-    ensures answer { result ≡ productOf weight sample }
+    ensures answer { result ≡ product_of weight sample }
 {
     step(0, weight, sample)
 }

@@ -1,0 +1,36 @@
+use mathlib.Core.Path.{ap, ◌∙◌}
+use Prim.Native.Nat.{◌<◌, ◌^◌}
+use Rattle.scan.specs.Answer.{pass_place}
+use Rattle.scan.proofs.RunLaws.{run_none, run_more, run_stopped, run_found}
+use Rattle.sheet_scan.proofs.OpenLaws.{apart_window, window_one}
+use borrow.Author.Rules.{rules}
+use Rattle.sheet_scan.proofs.rows.scan_windows.Goals as goal
+
+pub loop-i-init : goal.loop-i-init
+loop-i-init c = run_none _ _ _ _ c.requires.4
+
+pub scan_window-line-requires : goal.scan_window-line-requires
+scan_window-line-requires c =
+    let pre = c.requires in
+    (pre.0, pre.1, pre.2, pre.3, c.loop-i.invariant.within)
+
+pub returns-in_default : goal.returns-in_default
+returns-in_default c =
+    let lines = c.args.lines in
+    let window = c.args.window in
+    let limit = c.args.limit in
+    let small : lines < 2 ^ 32 = search rules in
+    let e = c.in_default.is in
+    let s = rw e at c.scan_window-line.ensures.answer in
+    record {
+      answer = rw (c.place_stop.ensures.answer ∙ ap pass_place e)
+          (run_stopped _ _ _ _ (λ i. apart_window lines window limit i small c.requires.3) (λ i. window_one lines window limit i c.requires.0 c.requires.1 c.requires.2) c.loop-i.invariant (search rules) s);
+    }
+
+pub loop-i-preserved : goal.loop-i-preserved
+loop-i-preserved c =
+    let f = rw c.in-Past.is at c.scan_window-line.ensures.answer in
+    run_more _ _ _ _ c.loop-i.invariant (search rules) f.1
+
+pub returns : goal.returns
+returns c = record { answer = (c.loop-i.invariant.values, run_found _ _ _ _ c.loop-i.invariant (search rules)) }
