@@ -2,7 +2,7 @@
 ghost use Rattle.std.specs.Prelude.{◌≡◌, not, ◌≤◌};
 ghost use Rattle.windows.specs.Set.{layout_of, set_of, stored_of, lent};
 ghost use Rattle.windows.specs.Fit.{unfit};
-ghost use Rattle.repairs.specs.Answer.{offeredOf};
+ghost use Rattle.repairs.specs.Answer.{offered_of};
 
 use offer_windows::first_lacking;
 use refusal::Refusal;
@@ -26,7 +26,7 @@ pub(crate) fn judge_set(
 ) -> Offered
     requires limit_bound { store.limit ≤ 31 }
     requires fits_value { fits ≡ not (unfit (stored_of (set_of (layout_of lines window_size starts.now sizes.now) (lent wide short.now long.now)) precision excesses.now) store) }
-    ensures answer { result ≡ offeredOf store (stored_of (set_of (layout_of lines window_size starts.now sizes.now) (lent wide short.now long.now)) precision excesses.now) room }
+    ensures answer { result ≡ offered_of store (stored_of (set_of (layout_of lines window_size starts.now sizes.now) (lent wide short.now long.now)) precision excesses.now) room }
 {
     if !sides_fit(lines, starts.len()) {
         return Offered::Refused(Refusal::BadSide);

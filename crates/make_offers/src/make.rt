@@ -2,7 +2,7 @@
 ghost use Rattle.std.specs.Prelude.{◌≡◌, length};
 ghost use Rattle.windows.specs.Set.{layout_of, set_of, stored_of};
 ghost use Rattle.windows.specs.Store.{store16, store32};
-ghost use Rattle.repairs.specs.Answer.{offeredOf, written_of};
+ghost use Rattle.repairs.specs.Answer.{offered_of, written_of};
 
 use crate::judge::judge_set;
 use excesses::{NO_LONG, NO_SHORT, stored_fits16, stored_fits32};
@@ -21,7 +21,7 @@ pub fn make_offer16(
     excesses: &[i64],
     out: &mut [i16],
 ) -> Offered
-    ensures answer { result ≡ offeredOf store16 (stored_of (set_of (layout_of lines window_size starts.now sizes.now) weights.now) precision excesses.now) (length out.old) }
+    ensures answer { result ≡ offered_of store16 (stored_of (set_of (layout_of lines window_size starts.now sizes.now) weights.now) precision excesses.now) (length out.old) }
     ensures written { out.new ≡ written_of store16 (stored_of (set_of (layout_of lines window_size starts.now sizes.now) weights.now) precision excesses.now) out.old }
 {
     let fits = stored_fits16(
@@ -65,7 +65,7 @@ pub fn make_offer32(
     excesses: &[i64],
     out: &mut [i32],
 ) -> Offered
-    ensures answer { result ≡ offeredOf store32 (stored_of (set_of (layout_of lines window_size starts.now sizes.now) weights.now) precision excesses.now) (length out.old) }
+    ensures answer { result ≡ offered_of store32 (stored_of (set_of (layout_of lines window_size starts.now sizes.now) weights.now) precision excesses.now) (length out.old) }
     ensures written { out.new ≡ written_of store32 (stored_of (set_of (layout_of lines window_size starts.now sizes.now) weights.now) precision excesses.now) out.old }
 {
     let fits = stored_fits32(

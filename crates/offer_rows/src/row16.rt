@@ -2,14 +2,14 @@
 ghost use Rattle.std.specs.Prelude.{◌≡◌, ◌+◌, ◌≤◌, length};
 ghost use Rattle.lists.specs.Tab.{tab};
 ghost use Rattle.excesses.specs.Slots.{slot_from};
-ghost use Rattle.offers.specs.Own.{offeredSlot};
+ghost use Rattle.offers.specs.Own.{offered_slot};
 
 use offers::{can_go, size, slot, tally, way};
 
 // n weights from slot a on, moved as the excess e asks, and 0 in the idle slots.
 pub fn offer_window16(e: i64, weights: &[i16], a: usize, n: usize, row: &mut [i16])
     requires { a + length row.old ≤ length weights.now }
-    ensures written { row.new ≡ tab 0 (length row.old) (offeredSlot 15 e (slot_from weights.now a) n) }
+    ensures written { row.new ≡ tab 0 (length row.old) (offered_slot 15 e (slot_from weights.now a) n) }
 {
     let s = way(e);
     let asked = size(e);

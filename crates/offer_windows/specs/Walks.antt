@@ -4,7 +4,7 @@ use Rattle.std.specs.Prelude.{Bool, cond, List, ℕ, ◌*◌, ℤ, pos, get_or}
 use Rattle.windows.specs.Set.{in_use_value}
 use Rattle.excesses.specs.Slots.{slot_from}
 use Rattle.offers.specs.Repair.{bad_repair}
-use Rattle.offers.specs.Own.{noRepair, offeredSlot}
+use Rattle.offers.specs.Own.{no_repair, offered_slot}
 
 -- the offered weights of window i do not repair it
 abbrev pub refused_in : ℕ → ℕ → ℕ → List ℤ → List ℤ → List ℕ → ℕ → Bool
@@ -12,11 +12,11 @@ refused_in limit p window ws os sizes i = bad_repair limit p (slot_from ws (i * 
 
 -- window i has no offer
 abbrev pub lacking_in : ℕ → ℕ → List ℤ → List ℕ → List ℤ → ℕ → Bool
-lacking_in limit window ws sizes excesses i = noRepair limit (get_or excesses i (pos 0)) (slot_from ws (i * window)) (get_or sizes i 0)
+lacking_in limit window ws sizes excesses i = no_repair limit (get_or excesses i (pos 0)) (slot_from ws (i * window)) (get_or sizes i 0)
 
 -- the slots of window i of our own offer
 abbrev pub offered_in : ℕ → ℕ → List ℤ → List ℕ → List ℤ → ℕ → ℕ → ℤ
-offered_in limit window ws sizes excesses i = offeredSlot limit (get_or excesses i (pos 0)) (slot_from ws (i * window)) (get_or sizes i 0)
+offered_in limit window ws sizes excesses i = offered_slot limit (get_or excesses i (pos 0)) (slot_from ws (i * window)) (get_or sizes i 0)
 
 -- slot k where an offer is taken over: the offered weight where the slot is in use, else the stored one
 abbrev pub replaced_in : ℕ → List ℤ → List ℤ → List ℕ → ℕ → ℤ

@@ -19,7 +19,7 @@ use Rattle.windows.specs.Set.{excess}
 use Rattle.windows.specs.Fit.{differ}
 use Rattle.excesses.proofs.RightLaws.{alike, not_differ}
 use Rattle.offers.specs.Repair.{Repair, changed}
-use Rattle.offers.specs.Own.{way, movable, moves, moved, noRepair}
+use Rattle.offers.specs.Own.{way, movable, moves, moved, no_repair}
 use Rattle.offers.proofs.RepairLaws.{negsuc_parts, excess_parts, enough}
 
 way_parts : (e : ℤ) → plus (way e) + minus (way e) ≤ 1
@@ -80,11 +80,11 @@ module _ (limit p : ℕ) (w : ℕ → ℤ) (n : ℕ) where
       go false q = h
 
   -- the window has no offer: nothing repairs it
-  pub none_there : noRepair limit e w n ≡ true → (v : ℕ → ℤ) → Repair limit p w v n → ⊥
+  pub none_there : no_repair limit e w n ≡ true → (v : ℕ → ℤ) → Repair limit p w v n → ⊥
   none_there h v o = let l : count (movable limit e w) n < nat_abs e = ltb-true (count (movable limit e w) n) (nat_abs e) h in omega (arith, enough limit p w v n o)
 
   -- it has one: the stored weights being inside their type, ours repairs it
-  pub own_repair : noRepair limit e w n ≡ false → ((k : ℕ) → k < n → mag (w k) < 2 ^ limit) → Repair limit p w own n
+  pub own_repair : no_repair limit e w n ≡ false → ((k : ℕ) → k < n → mag (w k) < 2 ^ limit) → Repair limit p w own n
   own_repair h typed = record {
     near = λ k l. own_near k;
     inside = λ k l. own_inside k (typed k l);
@@ -123,7 +123,7 @@ moves_changed limit e w k = go e (moves limit e w k) refl
     go (negsuc m) true q = differ_other (w k +ℤ pos 1) (w k) (gone (pos 1) (omega (arith, pos_parts 1)))
 
 -- where the window has an offer, exactly as many as the excess asks
-pub own_changed : (limit p : ℕ) (w : ℕ → ℤ) (n : ℕ) → noRepair limit (excess p w n) w n ≡ false → count (changed w (moved limit (excess p w n) w)) n ≡ nat_abs (excess p w n)
+pub own_changed : (limit p : ℕ) (w : ℕ → ℤ) (n : ℕ) → no_repair limit (excess p w n) w n ≡ false → count (changed w (moved limit (excess p w n) w)) n ≡ nat_abs (excess p w n)
 own_changed limit p w n h =
     count_ext (changed w (moved limit (excess p w n) w)) (moves limit (excess p w n) w) n (λ k l. moves_changed limit (excess p w n) w k)
     ∙ count_moves limit p w n (ltb-false (count (movable limit (excess p w n) w) n) (nat_abs (excess p w n)) h)

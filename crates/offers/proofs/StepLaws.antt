@@ -13,7 +13,7 @@ use Rattle.integers.specs.Sums.{distance}
 use Rattle.orders.specs.Count.{count}
 use Rattle.orders.proofs.CountLaws.{count_on, count_le}
 use Rattle.offers.specs.Repair.{in_type_value, bad_weight}
-use Rattle.offers.specs.Own.{way, movable, offeredSlot}
+use Rattle.offers.specs.Own.{way, movable, offered_slot}
 
 and_true : (b : Bool) → b && true ≡ b
 and_true true = refl
@@ -76,11 +76,11 @@ pub misfit_is : (limit : ℕ) (w v : ℕ → ℤ) (k : ℕ) {r : Bool} {x y : �
 misfit_is limit w v k er ex ey = er ∙ rw (ex, ey) refl
 
 pub slot_is : (limit : ℕ) (e : ℤ) (w : ℕ → ℤ) (n k : ℕ) {z x y : ℤ} {can : Bool} {seen asked : ℕ} → z ≡ cond (ltb k n) (cond (can && ltb seen asked) (y +ℤ x) y) (pos 0)
-    → can ≡ movable limit e w k → seen ≡ count (movable limit e w) k → asked ≡ nat_abs e → y ≡ w k → x ≡ way e → z ≡ offeredSlot limit e w n k
+    → can ≡ movable limit e w k → seen ≡ count (movable limit e w) k → asked ≡ nat_abs e → y ≡ w k → x ≡ way e → z ≡ offered_slot limit e w n k
 slot_is limit e w n k ez ec es en ey ex = ez ∙ rw (ec, es, en, ey, ex) refl
 
 -- an offered slot is inside the type, where the stored weight is
-pub slot_inside : (limit : ℕ) (e : ℤ) (w : ℕ → ℤ) (n k : ℕ) → mag (w k) < 2 ^ limit → 0 < 2 ^ limit → mag (offeredSlot limit e w n k) < 2 ^ limit
+pub slot_inside : (limit : ℕ) (e : ℤ) (w : ℕ → ℤ) (n k : ℕ) → mag (w k) < 2 ^ limit → 0 < 2 ^ limit → mag (offered_slot limit e w n k) < 2 ^ limit
 slot_inside limit e w n k h z = go (ltb k n) (movable limit e w k) (ltb (count (movable limit e w) k) (nat_abs e)) refl
   where
     go : (used can early : Bool) → movable limit e w k ≡ can → mag (cond used (cond (can && early) (w k +ℤ way e) (w k)) (pos 0)) < 2 ^ limit

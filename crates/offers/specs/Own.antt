@@ -24,9 +24,9 @@ module _ (limit : ℕ) (e : ℤ) (w : ℕ → ℤ) where
   moved k = cond (moves k) (w k +ℤ way e) (w k)
 
   -- the window of n weights has no offer: fewer can move than the excess asks
-  abbrev pub noRepair : ℕ → Bool
-  noRepair n = ltb (count movable n) (nat_abs e)
+  abbrev pub no_repair : ℕ → Bool
+  no_repair n = ltb (count movable n) (nat_abs e)
 
   -- slot k of the offer, of which n are in use: 0 in an idle one
-  abbrev pub offeredSlot : ℕ → ℕ → ℤ
-  offeredSlot n k = cond (ltb k n) (moved k) (pos 0)
+  abbrev pub offered_slot : ℕ → ℕ → ℤ
+  offered_slot n k = cond (ltb k n) (moved k) (pos 0)

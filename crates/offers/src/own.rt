@@ -3,7 +3,7 @@ ghost use Rattle.std.specs.Prelude.{◌≡◌, ◌+◌, ◌≤◌, length};
 ghost use Rattle.orders.specs.Count.{count};
 ghost use Rattle.windows.specs.Set.{lent};
 ghost use Rattle.excesses.specs.Slots.{slot_from};
-ghost use Rattle.offers.specs.Own.{movable, noRepair};
+ghost use Rattle.offers.specs.Own.{movable, no_repair};
 
 use crate::steps::{can_go, size, tally, way};
 use excesses::weight_at;
@@ -42,7 +42,7 @@ pub fn window_lacks(
     n: usize,
 ) -> bool
     requires { (limit ≤ 31) × (a + n ≤ length (lent wide short.now long.now)) }
-    ensures answer { result ≡ noRepair limit e (slot_from (lent wide short.now long.now) a) n }
+    ensures answer { result ≡ no_repair limit e (slot_from (lent wide short.now long.now) a) n }
 {
     (movables(limit, e, wide, short, long, a, n) as u64) < size(e)
 }

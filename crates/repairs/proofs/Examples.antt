@@ -9,7 +9,7 @@ use Rattle.refusal.specs.declared.Refusal.TheVariants.{NoOffer}
 use Rattle.windows.specs.Set.{Stored, layout_of, set_of, stored_of, excess}
 use Rattle.windows.specs.Store.{store16}
 use Rattle.repairs.specs.Offer.{Offer, offer_of, unlike}
-use Rattle.repairs.specs.Answer.{accepted_of, weights_by, excesses_by, weights_of, excesses_of, offeredOf, written_by, written_of}
+use Rattle.repairs.specs.Answer.{accepted_of, weights_by, excesses_by, weights_of, excesses_of, offered_of, written_by, written_of}
 use Rattle.repairs.specs.declared.Accepted.TheVariants.{Done, Refused}
 use Rattle.repairs.specs.declared.Offered.TheVariants.{Done as Made, NotFound}
 use Rattle.lists.specs.Tab.{front}
@@ -28,8 +28,8 @@ abbrev offer : List ℤ → Offer
 offer weights = offer_of 4 16 (0 ∷ []) (3 ∷ []) weights
 
 -- our own offer, its idle slot 0 and the slot past it as it was; and the set after it is taken over, its idle slot as it was
-pub offered : (offeredOf store16 thirds 5 ≡ Made) × (written_of store16 thirds lent ≡ pos 21846 ∷ pos 21845 ∷ pos 21845 ∷ pos 0 ∷ pos 1 ∷ [])
-unfolding offeredOf written_of written_by excess sum front
+pub offered : (offered_of store16 thirds 5 ≡ Made) × (written_of store16 thirds lent ≡ pos 21846 ∷ pos 21845 ∷ pos 21845 ∷ pos 0 ∷ pos 1 ∷ [])
+unfolding offered_of written_of written_by excess sum front
 offered = (refl, refl)
 
 abbrev own : Offer
@@ -48,6 +48,6 @@ judged = (refl, refl, refl)
 abbrev full : ℕ → List ℤ → Stored
 full n weights = one n weights 15 (negsuc 0)
 
-pub ends : (written_of store16 (full 2 (pos 32767 ∷ pos 0 ∷ pos 0 ∷ pos 0 ∷ [])) lent ≡ pos 32767 ∷ pos 1 ∷ pos 0 ∷ pos 0 ∷ pos 1 ∷ []) × (offeredOf store16 (full 1 (pos 32767 ∷ pos 0 ∷ pos 0 ∷ pos 0 ∷ [])) 4 ≡ NotFound (record { 0 = 0 }))
-unfolding offeredOf written_of written_by excess sum front
+pub ends : (written_of store16 (full 2 (pos 32767 ∷ pos 0 ∷ pos 0 ∷ pos 0 ∷ [])) lent ≡ pos 32767 ∷ pos 1 ∷ pos 0 ∷ pos 0 ∷ pos 1 ∷ []) × (offered_of store16 (full 1 (pos 32767 ∷ pos 0 ∷ pos 0 ∷ pos 0 ∷ [])) 4 ≡ NotFound (record { 0 = 0 }))
+unfolding offered_of written_of written_by excess sum front
 ends = (refl, refl)

@@ -18,14 +18,14 @@ use Rattle.lists.proofs.TabLaws.{tab_ext}
 use Rattle.refusal.specs.declared.Refusal.TheVariants.{BadSide, TooFewSlots, DoesNotFit, NoOffer}
 use Rattle.windows.specs.declared.Store.{Store}
 use Rattle.windows.specs.Set.{Stored, windows, excess_of}
-use Rattle.windows.specs.Fit.{Fits, InSlots, badStored}
+use Rattle.windows.specs.Fit.{Fits, InSlots, bad_stored}
 use Rattle.windows.proofs.Fits.{in_slots}
 use Rattle.excesses.proofs.RightLaws.{right_excess, judged_excesses}
 use Rattle.excesses.proofs.StoredLaws.{stored_fits}
 use Rattle.orders.proofs.FirstOrders.{first_ext}
 use Rattle.offer_windows.specs.Walks.{lacking_in, offered_in, no_excess}
-use Rattle.repairs.specs.Offer.{Offer, unlike, other_shape, notAccepted, repairedSlot}
-use Rattle.repairs.specs.Answer.{accepted_of, weights_by, excesses_by, weights_of, excesses_of, lacking, firstLacking, offeredAt, offeredOf, written_by, written_of}
+use Rattle.repairs.specs.Offer.{Offer, unlike, other_shape, not_accepted, repaired_slot}
+use Rattle.repairs.specs.Answer.{accepted_of, weights_by, excesses_by, weights_of, excesses_of, lacking, first_lacking, offered_at, offered_of, written_by, written_of}
 use Rattle.repairs.specs.declared.Accepted.TheVariants.{Done, Refused}
 use Rattle.repairs.specs.declared.Offered.{Offered}
 use Rattle.repairs.specs.declared.Offered.TheVariants.{Done as Made, NotFound, Refused as NotMade}
@@ -38,56 +38,56 @@ module _ (store : Store) (s : Stored) (o : Offer) where
   judged_1 h = rw h
 
   module _ (h1 : bad_sides_value s.set.layout.lines (windows s.set.layout) ≡ false) where
-    pub judged_10 : badStored s store ≡ true → Refused DoesNotFit ≡ accepted_of store s o
+    pub judged_10 : bad_stored s store ≡ true → Refused DoesNotFit ≡ accepted_of store s o
     unfolding accepted_of
     judged_10 h = rw (h1, h)
 
-    module _ (h10 : badStored s store ≡ false) where
-      pub judged_14 : notAccepted s o store ≡ true → Refused NoOffer ≡ accepted_of store s o
+    module _ (h10 : bad_stored s store ≡ false) where
+      pub judged_14 : not_accepted s o store ≡ true → Refused NoOffer ≡ accepted_of store s o
       unfolding accepted_of
       judged_14 h = rw (h1, h10, h)
 
-      pub judged_0 : notAccepted s o store ≡ false → Done ≡ accepted_of store s o
+      pub judged_0 : not_accepted s o store ≡ false → Done ≡ accepted_of store s o
       unfolding accepted_of
       judged_0 h = rw (h1, h10, h)
 
       -- and the two lists then
-      pub weights_taken : notAccepted s o store ≡ false → tab 0 (length s.set.weights) (repairedSlot s o) ≡ weights_of store s o
+      pub weights_taken : not_accepted s o store ≡ false → tab 0 (length s.set.weights) (repaired_slot s o) ≡ weights_of store s o
       unfolding weights_of weights_by
       weights_taken h = rw (← judged_0 h) refl
 
-      pub excesses_taken : notAccepted s o store ≡ false → tab 0 (length s.excesses) no_excess ≡ excesses_of store s o
+      pub excesses_taken : not_accepted s o store ≡ false → tab 0 (length s.excesses) no_excess ≡ excesses_of store s o
       unfolding excesses_of excesses_by
       excesses_taken h = rw (← judged_0 h) refl
 
 -- ---- the offerer's answer
 
 module _ (store : Store) (s : Stored) (room : ℕ) where
-  pub answered_1 : bad_sides_value s.set.layout.lines (windows s.set.layout) ≡ true → NotMade BadSide ≡ offeredOf store s room
-  unfolding offeredOf
+  pub answered_1 : bad_sides_value s.set.layout.lines (windows s.set.layout) ≡ true → NotMade BadSide ≡ offered_of store s room
+  unfolding offered_of
   answered_1 h1 = rw h1
 
   module _ (h1 : bad_sides_value s.set.layout.lines (windows s.set.layout) ≡ false) where
-    pub answered_7 : room < windows s.set.layout * s.set.layout.window_size_value → NotMade TooFewSlots ≡ offeredOf store s room
-    unfolding offeredOf
+    pub answered_7 : room < windows s.set.layout * s.set.layout.window_size_value → NotMade TooFewSlots ≡ offered_of store s room
+    unfolding offered_of
     answered_7 l = rw (h1, lt-ltb room (windows s.set.layout * s.set.layout.window_size_value) l)
 
     module _ (h7 : windows s.set.layout * s.set.layout.window_size_value ≤ room) where
-      pub answered_10 : badStored s store ≡ true → NotMade DoesNotFit ≡ offeredOf store s room
-      unfolding offeredOf
+      pub answered_10 : bad_stored s store ≡ true → NotMade DoesNotFit ≡ offered_of store s room
+      unfolding offered_of
       answered_10 h10 = rw (h1, le-ltb room (windows s.set.layout * s.set.layout.window_size_value) h7, h10)
 
-      module _ (h10 : badStored s store ≡ false) where
-        pub answered_14 : firstLacking store s < windows s.set.layout → NotFound (record { 0 = firstLacking store s }) ≡ offeredOf store s room
-        unfolding offeredOf
-        answered_14 l = rw (h1, le-ltb room (windows s.set.layout * s.set.layout.window_size_value) h7, h10, lt-ltb (firstLacking store s) (windows s.set.layout) l)
+      module _ (h10 : bad_stored s store ≡ false) where
+        pub answered_14 : first_lacking store s < windows s.set.layout → NotFound (record { 0 = first_lacking store s }) ≡ offered_of store s room
+        unfolding offered_of
+        answered_14 l = rw (h1, le-ltb room (windows s.set.layout * s.set.layout.window_size_value) h7, h10, lt-ltb (first_lacking store s) (windows s.set.layout) l)
 
-        pub answered_0 : windows s.set.layout ≤ firstLacking store s → Made ≡ offeredOf store s room
-        unfolding offeredOf
-        answered_0 l = rw (h1, le-ltb room (windows s.set.layout * s.set.layout.window_size_value) h7, h10, le-ltb (firstLacking store s) (windows s.set.layout) l)
+        pub answered_0 : windows s.set.layout ≤ first_lacking store s → Made ≡ offered_of store s room
+        unfolding offered_of
+        answered_0 l = rw (h1, le-ltb room (windows s.set.layout * s.set.layout.window_size_value) h7, h10, le-ltb (first_lacking store s) (windows s.set.layout) l)
 
 -- and its list where an offer is made
-pub offer_written : (store : Store) (s : Stored) (old : List ℤ) → Made ≡ offeredOf store s (length old) → front (windows s.set.layout * s.set.layout.window_size_value) (grid s.set.layout.window_size_value (offeredAt store s)) old ≡ written_of store s old
+pub offer_written : (store : Store) (s : Stored) (old : List ℤ) → Made ≡ offered_of store s (length old) → front (windows s.set.layout * s.set.layout.window_size_value) (grid s.set.layout.window_size_value (offered_at store s)) old ≡ written_of store s old
 unfolding written_of written_by
 offer_written store s old made = ap (λ (answer : Offered). written_by store s answer old) made
 
@@ -125,7 +125,7 @@ front_ext : (n : ℕ) (f g : ℕ → ℤ) (old : List ℤ) → ((i : ℕ) → i 
 unfolding front
 front_ext n f g old h = ap (λ (l : List ℤ). l ++ drop n old) (tab_ext 0 n f g (λ i l. rw zero-add (h i l)))
 
-module _ (store : Store) (s : Stored) (sides : bad_sides_value s.set.layout.lines (windows s.set.layout) ≡ false) (fine : badStored s store ≡ false) where
+module _ (store : Store) (s : Stored) (sides : bad_sides_value s.set.layout.lines (windows s.set.layout) ≡ false) (fine : bad_stored s store ≡ false) where
   pub whole : Fits s.set.layout (length s.set.weights)
   whole = stored_fits s store fine sides
 
@@ -137,15 +137,15 @@ module _ (store : Store) (s : Stored) (sides : bad_sides_value s.set.layout.line
   right = right_excess s (judged_excesses s store fine)
 
   -- so the search over the lists is the definition's
-  pub lacking_is : first (lacking_in store.limit s.set.layout.window_size_value s.set.weights s.set.layout.sizes s.excesses) 0 (length s.set.layout.sizes) ≡ firstLacking store s
+  pub lacking_is : first (lacking_in store.limit s.set.layout.window_size_value s.set.weights s.set.layout.sizes s.excesses) 0 (length s.set.layout.sizes) ≡ first_lacking store s
   lacking_is =
       let test = lacking_in store.limit s.set.layout.window_size_value s.set.weights s.set.layout.sizes s.excesses in
       ap (λ (n : ℕ). first test 0 n) (sym whole.pairs) ∙ first_ext test (lacking store s) 0 (windows s.set.layout) (λ i l m. rw (right i (omega (arith, m))) refl)
 
   -- and the offer made from them
-  pub offer_is : (old : List ℤ) → front (length s.set.layout.sizes * s.set.layout.window_size_value) (grid s.set.layout.window_size_value (offered_in store.limit s.set.layout.window_size_value s.set.weights s.set.layout.sizes s.excesses)) old ≡ front (windows s.set.layout * s.set.layout.window_size_value) (grid s.set.layout.window_size_value (offeredAt store s)) old
+  pub offer_is : (old : List ℤ) → front (length s.set.layout.sizes * s.set.layout.window_size_value) (grid s.set.layout.window_size_value (offered_in store.limit s.set.layout.window_size_value s.set.weights s.set.layout.sizes s.excesses)) old ≡ front (windows s.set.layout * s.set.layout.window_size_value) (grid s.set.layout.window_size_value (offered_at store s)) old
   offer_is old =
       let size = s.set.layout.window_size_value in
       let f = grid size (offered_in store.limit size s.set.weights s.set.layout.sizes s.excesses) in
       ap (λ (n : ℕ). front (n * size) f old) (sym whole.pairs)
-      ∙ front_ext (windows s.set.layout * size) f (grid size (offeredAt store s)) old (λ k l. rw (right (k / size) ((div-lt_iff_lt-mul whole.some_slot).1 l)) refl)
+      ∙ front_ext (windows s.set.layout * size) f (grid size (offered_at store s)) old (λ k l. rw (right (k / size) ((div-lt_iff_lt-mul whole.some_slot).1 l)) refl)

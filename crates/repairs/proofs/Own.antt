@@ -24,14 +24,14 @@ use Rattle.orders.proofs.CountLaws.{count_ext}
 use Rattle.orders.proofs.FirstOrders.{first_before}
 use Rattle.windows.specs.declared.Store.{Store}
 use Rattle.windows.specs.Set.{Stored, windows, size, weight, excess_of}
-use Rattle.windows.specs.Fit.{Fits, differ, badStored}
+use Rattle.windows.specs.Fit.{Fits, differ, bad_stored}
 use Rattle.excesses.proofs.SameExcess.{excess_ext}
 use Rattle.offers.specs.Repair.{Repair, changed}
 use Rattle.offers.specs.Own.{moved}
 use Rattle.offers.proofs.RepairLaws.{of_repair, least_changed}
 use Rattle.offers.proofs.OwnLaws.{none_there, own_repair, own_changed}
-use Rattle.repairs.specs.Offer.{Offer, unlike, other_shape, otherSet, offeredFor, refusedAt}
-use Rattle.repairs.specs.Answer.{accepted_of, number_of, lacking, firstLacking, offeredAt, too_few_slots, notFound, offeredOf, offered_number, offered_line, written_by, written_of}
+use Rattle.repairs.specs.Offer.{Offer, unlike, other_shape, other_set, offered_for, refused_at}
+use Rattle.repairs.specs.Answer.{accepted_of, number_of, lacking, first_lacking, offered_at, too_few_slots, not_found, offered_of, offered_number, offered_line, written_by, written_of}
 use Rattle.repairs.specs.Left.{left_offer}
 use Rattle.repairs.specs.Agreement.{Typed, Repairs, Unwritten, OwnAccepted, Complete, FirstLine, LeastChanged}
 use Rattle.repairs.specs.declared.Offered.{Offered}
@@ -65,7 +65,7 @@ same_shape window_size_value precision slots slots' starts sizes e =
 
 -- ---- a set that fits
 
-module _ (store : Store) (s : Stored) (sides : bad_sides_value s.set.layout.lines (windows s.set.layout) ≡ false) (fine : badStored s store ≡ false) where
+module _ (store : Store) (s : Stored) (sides : bad_sides_value s.set.layout.lines (windows s.set.layout) ≡ false) (fine : bad_stored s store ≡ false) where
   fits : Fits s.set.layout (length s.set.weights)
   fits = whole store s sides fine
 
@@ -85,56 +85,56 @@ module _ (store : Store) (s : Stored) (sides : bad_sides_value s.set.layout.line
   repaired typed i l h = own_repair store.limit s.precision (w i) (size s.set.layout i) h (λ k m. typed_at typed i k l m)
 
   -- every window has an offer, or the search stops at one that has none
-  none_lacking : windows s.set.layout ≤ firstLacking store s → (i : ℕ) → i < windows s.set.layout → lacking store s i ≡ false
+  none_lacking : windows s.set.layout ≤ first_lacking store s → (i : ℕ) → i < windows s.set.layout → lacking store s i ≡ false
   none_lacking h i l = first_none (lacking store s) 0 (windows s.set.layout) i (omega (arith, h)) (omega arith) (omega arith)
 
-  one_lacking : firstLacking store s < windows s.set.layout → lacking store s (firstLacking store s) ≡ true
+  one_lacking : first_lacking store s < windows s.set.layout → lacking store s (first_lacking store s) ≡ true
   one_lacking l = first_passes (lacking store s) 0 (windows s.set.layout) (omega (arith, l))
 
   -- ---- the offer is written
 
-  module _ (old : List ℤ) (room : windows s.set.layout * s.set.layout.window_size_value ≤ length old) (all : windows s.set.layout ≤ firstLacking store s) where
+  module _ (old : List ℤ) (room : windows s.set.layout * s.set.layout.window_size_value ≤ length old) (all : windows s.set.layout ≤ first_lacking store s) where
     abbrev own : Offer
     own = left_offer store s old
 
     abbrev all_slots : ℕ
     all_slots = windows s.set.layout * s.set.layout.window_size_value
 
-    written : written_of store s old ≡ front all_slots (grid s.set.layout.window_size_value (offeredAt store s)) old
+    written : written_of store s old ≡ front all_slots (grid s.set.layout.window_size_value (offered_at store s)) old
     written = sym (offer_written store s old (answered_0 store s (length old) sides room fine all))
 
     long : length own.weights ≡ length s.set.weights
     long =
-        let same : length (written_of store s old) ≡ length old = ap length written ∙ length_front all_slots (grid s.set.layout.window_size_value (offeredAt store s)) old room in
+        let same : length (written_of store s old) ≡ length old = ap length written ∙ length_front all_slots (grid s.set.layout.window_size_value (offered_at store s)) old room in
         let full = fits.full in
         simp length-take (omega (arith, same, room, full))
 
-    own_slot : (i k : ℕ) → i < windows s.set.layout → k < size s.set.layout i → offeredFor s own i k ≡ get_or (written_of store s old) (i * s.set.layout.window_size_value + k) (pos 0)
+    own_slot : (i k : ℕ) → i < windows s.set.layout → k < size s.set.layout i → offered_for s own i k ≡ get_or (written_of store s old) (i * s.set.layout.window_size_value + k) (pos 0)
     own_slot i k l m =
         let wide : k < s.set.layout.window_size_value = omega (arith, fits.small i l) in
         get_or-take all_slots (written_of store s old) (i * s.set.layout.window_size_value + k) (pos 0) (digits_lt l wide)
 
-    own_moved : (i k : ℕ) → i < windows s.set.layout → k < size s.set.layout i → offeredFor s own i k ≡ moved store.limit (excess_of s i) (w i) k
+    own_moved : (i k : ℕ) → i < windows s.set.layout → k < size s.set.layout i → offered_for s own i k ≡ moved store.limit (excess_of s i) (w i) k
     own_moved i k l m =
         let wide : k < s.set.layout.window_size_value = omega (arith, fits.small i l) in
         let place = i * s.set.layout.window_size_value + k in
-        let f = grid s.set.layout.window_size_value (offeredAt store s) in
+        let f = grid s.set.layout.window_size_value (offered_at store s) in
         own_slot i k l m ∙ ap (λ (ws : List ℤ). get_or ws place (pos 0)) written ∙ front_below all_slots f old place (pos 0) (digits_lt l wide)
-        ∙ grid_at s.set.layout.window_size_value (offeredAt store s) i k wide ∙ rw (lt-ltb k (size s.set.layout i) m) refl
+        ∙ grid_at s.set.layout.window_size_value (offered_at store s) i k wide ∙ rw (lt-ltb k (size s.set.layout i) m) refl
 
     accepted : Typed store s → number_of (accepted_of store s own) ≡ 0
     accepted typed =
-        let each = none_any (refusedAt s own store) (windows s.set.layout)
-        (λ i l. of_repair store.limit s.precision (w i) (offeredFor s own i) (size s.set.layout i)
-        (repair_ext store.limit s.precision (w i) (moved store.limit (excess_of s i) (w i)) (offeredFor s own i) (size s.set.layout i) (λ k m. sym (own_moved i k l m)) (repaired typed i l (none_lacking all i l)))) in
+        let each = none_any (refused_at s own store) (windows s.set.layout)
+        (λ i l. of_repair store.limit s.precision (w i) (offered_for s own i) (size s.set.layout i)
+        (repair_ext store.limit s.precision (w i) (moved store.limit (excess_of s i) (w i)) (offered_for s own i) (size s.set.layout i) (λ k m. sym (own_moved i k l m)) (repaired typed i l (none_lacking all i l)))) in
         let shape = same_shape s.set.layout.window_size_value s.precision (length s.set.weights) (length own.weights) s.set.layout.starts s.set.layout.sizes long in
-        (accepted_exactly store s own 0).1 (sides, (fine, (or_none (otherSet s own) (any (windows s.set.layout) (refusedAt s own store)) shape each, refl)))
+        (accepted_exactly store s own 0).1 (sides, (fine, (or_none (other_set s own) (any (windows s.set.layout) (refused_at s own store)) shape each, refl)))
 
     -- ours changes as many weights as the excess asks, and no repair fewer
-    least : (i : ℕ) → i < windows s.set.layout → (v : ℕ → ℤ) → Repairs store s i v → count (changed (w i) (offeredFor s own i)) (size s.set.layout i) ≤ count (changed (w i) v) (size s.set.layout i)
+    least : (i : ℕ) → i < windows s.set.layout → (v : ℕ → ℤ) → Repairs store s i v → count (changed (w i) (offered_for s own i)) (size s.set.layout i) ≤ count (changed (w i) v) (size s.set.layout i)
     least i l v r =
         let n = size s.set.layout i in
-        let same = count_ext (changed (w i) (offeredFor s own i)) (changed (w i) (moved store.limit (excess_of s i) (w i))) n (λ k m. ap (λ (z : ℤ). differ z (w i k)) (own_moved i k l m)) in
+        let same = count_ext (changed (w i) (offered_for s own i)) (changed (w i) (moved store.limit (excess_of s i) (w i))) n (λ k m. ap (λ (z : ℤ). differ z (w i k)) (own_moved i k l m)) in
         let ours = own_changed store.limit s.precision (w i) n (none_lacking all i l) in
         omega (arith, same, ours, least_changed store.limit s.precision (w i) v n r)
 
@@ -142,9 +142,9 @@ module _ (store : Store) (s : Stored) (sides : bad_sides_value s.set.layout.line
 
 pub unwritten : (store : Store) → Unwritten store
 unfolding written_of written_by
-unwritten store s old other = go (offeredOf store s (length old)) refl
+unwritten store s old other = go (offered_of store s (length old)) refl
   where
-    go : (a : Offered) → offeredOf store s (length old) ≡ a → written_by store s a old ≡ old
+    go : (a : Offered) → offered_of store s (length old) ≡ a → written_by store s a old ≡ old
     go Made e = absurd (other (ap offered_number e))
     go (NotFound line) e = refl
     go (NotMade refusal) e = refl
@@ -152,17 +152,17 @@ unwritten store s old other = go (offeredOf store s (length old)) refl
 -- what an answer of 0 says of the set and of the list
 pub record Making (store : Store) (s : Stored) (room : ℕ) : Type 0 where
   pub sides : bad_sides_value s.set.layout.lines (windows s.set.layout) ≡ false
-  pub fine : badStored s store ≡ false
+  pub fine : bad_stored s store ≡ false
   pub enough : windows s.set.layout * s.set.layout.window_size_value ≤ room
-  pub all : windows s.set.layout ≤ firstLacking store s
+  pub all : windows s.set.layout ≤ first_lacking store s
 
-pub making : (store : Store) (s : Stored) (room : ℕ) → offered_number (offeredOf store s room) ≡ 0 → Making store s room
+pub making : (store : Store) (s : Stored) (room : ℕ) → offered_number (offered_of store s room) ≡ 0 → Making store s room
 making store s room made =
     let due = (offered_exactly store s room 0).0 made in record {
       sides = due.0;
       fine = due.1.1.0;
       enough = ltb-false room (windows s.set.layout * s.set.layout.window_size_value) due.1.0;
-      all = ltb-false (firstLacking store s) (windows s.set.layout) due.1.1.1.0;
+      all = ltb-false (first_lacking store s) (windows s.set.layout) due.1.1.1.0;
     }
 
 pub own_accepted : (store : Store) → OwnAccepted store
@@ -175,33 +175,33 @@ pub complete : (store : Store) → Complete store
 complete store s room typed fit enough = (none, some)
   where
     sides : bad_sides_value s.set.layout.lines (windows s.set.layout) ≡ false
-    sides = or_left (bad_sides_value s.set.layout.lines (windows s.set.layout)) (badStored s store) fit
+    sides = or_left (bad_sides_value s.set.layout.lines (windows s.set.layout)) (bad_stored s store) fit
 
-    fine : badStored s store ≡ false
-    fine = or_right (bad_sides_value s.set.layout.lines (windows s.set.layout)) (badStored s store) fit
+    fine : bad_stored s store ≡ false
+    fine = or_right (bad_sides_value s.set.layout.lines (windows s.set.layout)) (bad_stored s store) fit
 
     -- an accepted offer would repair the window that nothing repairs
-    none : offered_number (offeredOf store s room) ≡ 14 → (o : Offer) → number_of (accepted_of store s o) ≡ 0 → ⊥
+    none : offered_number (offered_of store s room) ≡ 14 → (o : Offer) → number_of (accepted_of store s o) ≡ 0 → ⊥
     none h o accepted =
-        let l : firstLacking store s < windows s.set.layout = ltb-true (firstLacking store s) (windows s.set.layout) ((offered_exactly store s room 14).0 h).1.1.1 in
-        unrepaired store s sides fine (firstLacking store s) (one_lacking store s sides fine l) (offeredFor s o (firstLacking store s)) (each_repaired store s o accepted (firstLacking store s) l)
+        let l : first_lacking store s < windows s.set.layout = ltb-true (first_lacking store s) (windows s.set.layout) ((offered_exactly store s room 14).0 h).1.1.1 in
+        unrepaired store s sides fine (first_lacking store s) (one_lacking store s sides fine l) (offered_for s o (first_lacking store s)) (each_repaired store s o accepted (first_lacking store s) l)
 
     -- and where every window has an offer, ours is accepted
-    lacks : ((o : Offer) → number_of (accepted_of store s o) ≡ 0 → ⊥) → (b : Bool) → notFound store s ≡ b → b ≡ true
+    lacks : ((o : Offer) → number_of (accepted_of store s o) ≡ 0 → ⊥) → (b : Bool) → not_found store s ≡ b → b ≡ true
     lacks refused true q = refl
     lacks refused false q =
         let full = (fits store s sides fine).full in
-        let all = ltb-false (firstLacking store s) (windows s.set.layout) q in
+        let all = ltb-false (first_lacking store s) (windows s.set.layout) q in
         absurd (refused (left_offer store s s.set.weights) (accepted store s sides fine s.set.weights (omega (arith, full)) all typed))
 
-    some : ((o : Offer) → number_of (accepted_of store s o) ≡ 0 → ⊥) → offered_number (offeredOf store s room) ≡ 14
+    some : ((o : Offer) → number_of (accepted_of store s o) ≡ 0 → ⊥) → offered_number (offered_of store s room) ≡ 14
     some refused =
         (offered_exactly store s room 14).1
-        (sides, (le-ltb room (windows s.set.layout * s.set.layout.window_size_value) enough, (fine, lacks refused (notFound store s) refl)))
+        (sides, (le-ltb room (windows s.set.layout * s.set.layout.window_size_value) enough, (fine, lacks refused (not_found store s) refl)))
 
-line_is : (store : Store) (s : Stored) (room : ℕ) → bad_sides_value s.set.layout.lines (windows s.set.layout) ≡ false → too_few_slots store s room ≡ false → badStored s store ≡ false → notFound store s ≡ true
-    → offered_line (offeredOf store s room) ≡ firstLacking store s
-unfolding offeredOf
+line_is : (store : Store) (s : Stored) (room : ℕ) → bad_sides_value s.set.layout.lines (windows s.set.layout) ≡ false → too_few_slots store s room ≡ false → bad_stored s store ≡ false → not_found store s ≡ true
+    → offered_line (offered_of store s room) ≡ first_lacking store s
+unfolding offered_of
 line_is store s room a b c d = rw (a, b, c, d) refl
 
 pub first_line : (store : Store) → FirstLine store
@@ -210,11 +210,11 @@ first_line store s room typed h =
     let sides = due.0 in
     let fine = due.1.1.0 in
     let n = windows s.set.layout in
-    let l : firstLacking store s < windows s.set.layout = ltb-true (firstLacking store s) n due.1.1.1 in
+    let l : first_lacking store s < windows s.set.layout = ltb-true (first_lacking store s) n due.1.1.1 in
     rw (line_is store s room sides due.1.0 fine due.1.1.1) (
       l,
       (
-        unrepaired store s sides fine (firstLacking store s) (one_lacking store s sides fine l),
+        unrepaired store s sides fine (first_lacking store s) (one_lacking store s sides fine l),
         λ i m. (moved store.limit (excess_of s i) (weight s.set (pos 0) i), repaired store s sides fine typed i (omega (arith, l, m)) (first_before (lacking store s) 0 n i (omega arith) m)),
       ),
     )
@@ -222,4 +222,4 @@ first_line store s room typed h =
 pub least_of_all : (store : Store) → LeastChanged store
 least_of_all store s old o made taken i l =
     let m = making store s (length old) made in
-    least store s m.sides m.fine old m.enough m.all i l (offeredFor s o i) (each_repaired store s o taken i l)
+    least store s m.sides m.fine old m.enough m.all i l (offered_for s o i) (each_repaired store s o taken i l)

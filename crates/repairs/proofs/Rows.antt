@@ -11,9 +11,9 @@ use Rattle.refusal.specs.declared.Refusal.TheVariants.{BadSide, TooFewSlots, Doe
 use Rattle.windows.specs.declared.DisplayLine.{DisplayLine}
 use Rattle.windows.specs.declared.Store.{Store}
 use Rattle.windows.specs.Set.{Stored, windows}
-use Rattle.windows.specs.Fit.{badStored}
-use Rattle.repairs.specs.Offer.{Offer, notAccepted}
-use Rattle.repairs.specs.Answer.{accepted_of, number_of, firstLacking, too_few_slots, notFound, offeredOf, offered_number}
+use Rattle.windows.specs.Fit.{bad_stored}
+use Rattle.repairs.specs.Offer.{Offer, not_accepted}
+use Rattle.repairs.specs.Answer.{accepted_of, number_of, first_lacking, too_few_slots, not_found, offered_of, offered_number}
 use Rattle.repairs.specs.declared.Accepted.TheVariants.{Done, Refused}
 use Rattle.repairs.specs.declared.Offered.TheVariants.{Done as Made, NotFound, Refused as NotMade}
 
@@ -35,30 +35,30 @@ module _ (store : Store) (s : Stored) (o : Offer) where
   abbrev pub rows : List (Bool × ℕ)
   rows =
       (bad_sides_value s.set.layout.lines (windows s.set.layout), 1)
-      ∷ (badStored s store, 10)
-      ∷ (notAccepted s o store, 14)
+      ∷ (bad_stored s store, 10)
+      ∷ (not_accepted s o store, 14)
       ∷ []
 
   is : number_of (accepted_of store s o) ≡ given rows
   unfolding accepted_of
-  is = numbered (bad_sides_value s.set.layout.lines (windows s.set.layout)) (badStored s store) (notAccepted s o store)
+  is = numbered (bad_sides_value s.set.layout.lines (windows s.set.layout)) (bad_stored s store) (not_accepted s o store)
 
   pub accepted_exactly : (n : ℕ) → Exactly (number_of (accepted_of store s o) ≡ n) (Due n rows)
   accepted_exactly n = rw is (exactly_due n rows refl)
 
 module _ (store : Store) (s : Stored) (room : ℕ) where
   -- the offerer's: sides; slots lent; the stored set; a window that has no offer
-  abbrev pub offer-rows : List (Bool × ℕ)
-  offer-rows =
+  abbrev pub offer_rows : List (Bool × ℕ)
+  offer_rows =
       (bad_sides_value s.set.layout.lines (windows s.set.layout), 1)
       ∷ (too_few_slots store s room, 7)
-      ∷ (badStored s store, 10)
-      ∷ (notFound store s, 14)
+      ∷ (bad_stored s store, 10)
+      ∷ (not_found store s, 14)
       ∷ []
 
-  made_is : offered_number (offeredOf store s room) ≡ given offer-rows
-  unfolding offeredOf
-  made_is = made_numbered (bad_sides_value s.set.layout.lines (windows s.set.layout)) (too_few_slots store s room) (badStored s store) (notFound store s) (record { 0 = firstLacking store s })
+  made_is : offered_number (offered_of store s room) ≡ given offer_rows
+  unfolding offered_of
+  made_is = made_numbered (bad_sides_value s.set.layout.lines (windows s.set.layout)) (too_few_slots store s room) (bad_stored s store) (not_found store s) (record { 0 = first_lacking store s })
 
-  pub offered_exactly : (n : ℕ) → Exactly (offered_number (offeredOf store s room) ≡ n) (Due n offer-rows)
-  offered_exactly n = rw made_is (exactly_due n offer-rows refl)
+  pub offered_exactly : (n : ℕ) → Exactly (offered_number (offered_of store s room) ≡ n) (Due n offer_rows)
+  offered_exactly n = rw made_is (exactly_due n offer_rows refl)

@@ -18,13 +18,13 @@ use Rattle.lists.proofs.TabLaws.{length_tab, get_d_tab}
 use Rattle.windows.specs.declared.Store.{Store}
 use Rattle.windows.specs.Set.{Stored, windows, size, weight, excess_of}
 use Rattle.windows.specs.Store.{bad_precision}
-use Rattle.windows.specs.Fit.{Fits, badSet, badExcesses, badStored, unfit}
+use Rattle.windows.specs.Fit.{Fits, bad_set, bad_excesses, bad_stored, unfit}
 use Rattle.excesses.proofs.RightLaws.{right_excesses}
 use Rattle.excesses.proofs.SameExcess.{excess_ext}
 use Rattle.excesses.proofs.StoredLaws.{excess_count}
 use Rattle.offers.proofs.RepairLaws.{repair_of}
 use Rattle.offer_windows.specs.Walks.{no_excess}
-use Rattle.repairs.specs.Offer.{Offer, otherSet, offeredFor, refusedAt, notAccepted, repairedSlot}
+use Rattle.repairs.specs.Offer.{Offer, other_set, offered_for, refused_at, not_accepted, repaired_slot}
 use Rattle.repairs.specs.Answer.{accepted_of, number_of, weights_by, excesses_by, weights_of, excesses_of}
 use Rattle.repairs.specs.Left.{left_set}
 use Rattle.repairs.specs.Agreement.{Repairs, AcceptedRepairs, TakenOver, LeftFits, Untouched}
@@ -41,10 +41,10 @@ module _ (store : Store) (s : Stored) (o : Offer) (accepted : number_of (accepte
   pub sides : bad_sides_value s.set.layout.lines (windows s.set.layout) ≡ false
   sides = ((accepted_exactly store s o 0).0 accepted).0
 
-  pub fine : badStored s store ≡ false
+  pub fine : bad_stored s store ≡ false
   fine = ((accepted_exactly store s o 0).0 accepted).1.0
 
-  pub good : notAccepted s o store ≡ false
+  pub good : not_accepted s o store ≡ false
   good = ((accepted_exactly store s o 0).0 accepted).1.1.0
 
   pub fits : Fits s.set.layout (length s.set.weights)
@@ -54,32 +54,32 @@ module _ (store : Store) (s : Stored) (o : Offer) (accepted : number_of (accepte
   pub as_many : length o.weights ≡ length s.set.weights
   as_many =
       same_slots s.set.layout.window_size_value s.precision (length s.set.weights) o.window_size_value o.precision (length o.weights) s.set.layout.starts s.set.layout.sizes o.starts o.sizes
-      (or_left (otherSet s o) (any (windows s.set.layout) (refusedAt s o store)) good)
+      (or_left (other_set s o) (any (windows s.set.layout) (refused_at s o store)) good)
 
-  pub each_repaired : (i : ℕ) → i < windows s.set.layout → Repairs store s i (offeredFor s o i)
+  pub each_repaired : (i : ℕ) → i < windows s.set.layout → Repairs store s i (offered_for s o i)
   each_repaired i l =
-      repair_of store.limit s.precision (weight s.set (pos 0) i) (offeredFor s o i) (size s.set.layout i)
-      (any_none (refusedAt s o store) (windows s.set.layout) (or_right (otherSet s o) (any (windows s.set.layout) (refusedAt s o store)) good) i l)
+      repair_of store.limit s.precision (weight s.set (pos 0) i) (offered_for s o i) (size s.set.layout i)
+      (any_none (refused_at s o store) (windows s.set.layout) (or_right (other_set s o) (any (windows s.set.layout) (refused_at s o store)) good) i l)
 
   -- what the lists hold
-  pub weights_in : weights_of store s o ≡ tab 0 (length s.set.weights) (repairedSlot s o)
+  pub weights_in : weights_of store s o ≡ tab 0 (length s.set.weights) (repaired_slot s o)
   weights_in = sym (weights_taken store s o sides fine good)
 
   pub excesses_in : excesses_of store s o ≡ tab 0 (length s.excesses) no_excess
   excesses_in = sym (excesses_taken store s o sides fine good)
 
-  in_use : (i k : ℕ) → i < windows s.set.layout → k < size s.set.layout i → weight (left_set store s o).set (pos 0) i k ≡ offeredFor s o i k
+  in_use : (i k : ℕ) → i < windows s.set.layout → k < size s.set.layout i → weight (left_set store s o).set (pos 0) i k ≡ offered_for s o i k
   in_use i k l m =
       let wide : k < s.set.layout.window_size_value = omega (arith, fits.small i l) in
       let place = i * s.set.layout.window_size_value + k in
       let here : place < length s.set.weights = rw fits.full (digits_lt l wide) in
       ap (λ (ws : List ℤ). get_or ws place (pos 0)) weights_in
-      ∙ get_d_tab 0 (length s.set.weights) (repairedSlot s o) place (pos 0) here
+      ∙ get_d_tab 0 (length s.set.weights) (repaired_slot s o) place (pos 0) here
       ∙ rw (zero-add place, digits_div i wide, digits_mod i wide, lt-ltb k (size s.set.layout i) m) refl
 
   excess_gone : (i : ℕ) → i < windows s.set.layout → excess_of (left_set store s o) i ≡ pos 0
   excess_gone i l =
-      excess_ext (weight (left_set store s o).set (pos 0) i) (offeredFor s o i) s.precision (size s.set.layout i) (λ k m. in_use i k l m) ∙ (each_repaired i l).exact
+      excess_ext (weight (left_set store s o).set (pos 0) i) (offered_for s o i) s.precision (size s.set.layout i) (λ k m. in_use i k l m) ∙ (each_repaired i l).exact
 
   pub count : length s.excesses ≡ windows s.set.layout
   count = excess_count s store fine
@@ -89,25 +89,25 @@ module _ (store : Store) (s : Stored) (o : Offer) (accepted : number_of (accepte
 
   -- the tests of the set that is left, one by one
   abbrev shape : Bool
-  shape = badSet s.set.layout (length s.set.weights) || bad_precision store s.precision
+  shape = bad_set s.set.layout (length s.set.weights) || bad_precision store s.precision
 
   same_shape : shape ≡ false
-  same_shape = or_left shape (badExcesses s) fine
+  same_shape = or_left shape (bad_excesses s) fine
 
-  slots : badSet s.set.layout (length (weights_of store s o)) ≡ false
+  slots : bad_set s.set.layout (length (weights_of store s o)) ≡ false
   slots =
-      subst (λ (n : ℕ). badSet s.set.layout n ≡ false) (sym (ap length weights_in ∙ length_tab 0 (length s.set.weights) (repairedSlot s o)))
-      (or_left (badSet s.set.layout (length s.set.weights)) (bad_precision store s.precision) same_shape)
+      subst (λ (n : ℕ). bad_set s.set.layout n ≡ false) (sym (ap length weights_in ∙ length_tab 0 (length s.set.weights) (repaired_slot s o)))
+      (or_left (bad_set s.set.layout (length s.set.weights)) (bad_precision store s.precision) same_shape)
 
-  right : badExcesses (left_set store s o) ≡ false
+  right : bad_excesses (left_set store s o) ≡ false
   right =
       right_excesses (left_set store s o) (ap length excesses_in ∙ length_tab 0 (length s.excesses) no_excess ∙ count)
       (λ i l. excess_gone i l ∙ sym (listed i l))
 
   fits_again : unfit (left_set store s o) store ≡ false
   fits_again =
-      none_due (bad_sides_value s.set.layout.lines (windows s.set.layout)) (badSet s.set.layout (length (weights_of store s o))) (bad_precision store s.precision) (badExcesses (left_set store s o))
-      sides slots (or_right (badSet s.set.layout (length s.set.weights)) (bad_precision store s.precision) same_shape) right
+      none_due (bad_sides_value s.set.layout.lines (windows s.set.layout)) (bad_set s.set.layout (length (weights_of store s o))) (bad_precision store s.precision) (bad_excesses (left_set store s o))
+      sides slots (or_right (bad_set s.set.layout (length s.set.weights)) (bad_precision store s.precision) same_shape) right
 
 pub accepted_repairs : (store : Store) → AcceptedRepairs store
 accepted_repairs store s o h i l = each_repaired store s o h i l

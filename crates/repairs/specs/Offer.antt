@@ -35,23 +35,23 @@ other_shape window_size_value precision starts sizes slots windowSize' precision
 
 module _ (s : Stored) (o : Offer) where
   -- the offer is for another set
-  abbrev pub otherSet : Bool
-  otherSet =
+  abbrev pub other_set : Bool
+  other_set =
       other_shape s.set.layout.window_size_value s.precision s.set.layout.starts s.set.layout.sizes (length s.set.weights)
       o.window_size_value o.precision o.starts o.sizes (length o.weights)
 
   -- the weight that is offered for line k of window i
-  abbrev pub offeredFor : ℕ → ℕ → ℤ
-  offeredFor = weight (set_of s.set.layout o.weights) (pos 0)
+  abbrev pub offered_for : ℕ → ℕ → ℤ
+  offered_for = weight (set_of s.set.layout o.weights) (pos 0)
 
   -- those of window i do not repair it
-  abbrev pub refusedAt : Store → ℕ → Bool
-  refusedAt store i = bad_repair store.limit s.precision (weight s.set (pos 0) i) (offeredFor i) (size s.set.layout i)
+  abbrev pub refused_at : Store → ℕ → Bool
+  refused_at store i = bad_repair store.limit s.precision (weight s.set (pos 0) i) (offered_for i) (size s.set.layout i)
 
   -- No. 14: the offer is for another set, or does not repair some window
-  abbrev pub notAccepted : Store → Bool
-  notAccepted store = otherSet || any (windows s.set.layout) (refusedAt store)
+  abbrev pub not_accepted : Store → Bool
+  not_accepted store = other_set || any (windows s.set.layout) (refused_at store)
 
   -- slot k where the offer is taken over: the offered weight where the slot is in use, else the stored one
-  abbrev pub repairedSlot : ℕ → ℤ
-  repairedSlot = replaced_in s.set.layout.window_size_value s.set.weights o.weights s.set.layout.sizes
+  abbrev pub repaired_slot : ℕ → ℤ
+  repaired_slot = replaced_in s.set.layout.window_size_value s.set.weights o.weights s.set.layout.sizes

@@ -8,7 +8,7 @@ mod answer;
 use refusal::Refusal;
 use windows::DisplayLine;
 
-#[derive(Drop)]
+#[derive(Clone, Copy)]
 pub enum Accepted {
     // 0: the offered weights are in use, and every excess is 0
     Done,
@@ -16,7 +16,7 @@ pub enum Accepted {
     Refused(Refusal),
 }
 
-#[derive(Drop)]
+#[derive(Clone, Copy)]
 pub enum Offered {
     // 0: the offer is written
     Done,

@@ -28,8 +28,8 @@ module _ (numbers : List ℕ) where
     tail = c * 8192 + number c 2;
   }
 
-  unfoldable pub foundIn : ℕ → ℕ → ℕ → ℕ → ℕ → Found
-  foundIn slots starts sizes excesses c = cond (closed_by numbers slots starts sizes excesses c || unset_by (number c 0) (number c 2) (number c 3)) Nothing (At (place_of c))
+  unfoldable pub found_in : ℕ → ℕ → ℕ → ℕ → ℕ → Found
+  found_in slots starts sizes excesses c = cond (closed_by numbers slots starts sizes excesses c || unset_by (number c 0) (number c 2) (number c 3)) Nothing (At (place_of c))
 
 -- a new set has at most 8,192 windows
 abbrev pub Few : Outcome → ℕ → Type 0

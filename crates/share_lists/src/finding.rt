@@ -1,7 +1,7 @@
 // Where the set of a client stands.
 ghost use Rattle.std.specs.Prelude.{◌≡◌, ◌+◌, ◌*◌, ◌^◌, ◌≤◌, ◌<◌, length, get_or};
 ghost use Rattle.shares.specs.Store.{unset_by};
-ghost use Rattle.share_lists.specs.Inner.{place_of, foundIn};
+ghost use Rattle.share_lists.specs.Inner.{place_of, found_in};
 
 use crate::judging::closed;
 use crate::places::{line_base, many, number, slot_base, wide};
@@ -16,7 +16,7 @@ pub fn find(
     excesses: usize,
     client: u32,
 ) -> Found
-    ensures answer { result ≡ foundIn numbers.now slots starts sizes excesses client }
+    ensures answer { result ≡ found_in numbers.now slots starts sizes excesses client }
 {
     if closed(numbers, slots, starts, sizes, excesses, client) {
         return Found::Nothing;

@@ -1,7 +1,7 @@
 -- What a new set is, once `make` has said that there is one, and that the lists which `place` leaves are those of `after`, list by list. Cited by the proof of `place`.
 -- Assumes nothing.
 use mathlib.Core.Path.{◌≡◌, refl, sym, ap, ◌∙◌, subst}
-use mathlib.Core.Bool.{Bool, false, ◌||◌}
+use mathlib.Core.Bool.{false, ◌||◌}
 use mathlib.Core.List.{List, [], ◌∷◌, ◌++◌}
 use Prim.Native.Nat.{ℕ, ◌+◌, ◌-◌, ◌*◌, ◌≤◌}
 use native.Mathlib.Nat.{le_trans, le_of_eq}
@@ -30,7 +30,7 @@ use Rattle.made_sets.proofs.Made.{FitsMade, weights_room, made_fits}
 use Rattle.store_sets.specs.declared.Outcome.{Outcome}
 use Rattle.store_sets.specs.Inner.{outcome, slots_after, excesses_after}
 use Rattle.store_sets.proofs.Making.{made_old}
-use Rattle.shares.specs.Store.{Store, share, slotBase, line_base, closed}
+use Rattle.shares.specs.Store.{Store, share, slot_base, line_base, closed}
 use Rattle.shares.specs.Scratch.{Scratch, too_short, built_in}
 use Rattle.shares.specs.Machine.{with_set, after}
 use Rattle.shares.proofs.Opened.{Open, open_store, in_slots}
@@ -98,7 +98,7 @@ module _ (s : Store) (c : ℕ) (q : Request) (n : ℕ) where
   sizes_end (new stored) k old left e = ap (laid s.sizes (line_base c)) (ap (take q.output) e ∙ sym (k.sizes_are old))
   sizes_end (none answer) k old left e = refl
 
-  pub slots_end : (m : Made) → FitsMade n m → (a k : ℕ) → a ≡ slotBase s c → k ≡ n → a + k ≤ length s.slots
+  pub slots_end : (m : Made) → FitsMade n m → (a k : ℕ) → a ≡ slot_base s c → k ≡ n → a + k ≤ length s.slots
       → take a s.slots ++ (slots_after m (take k (drop a s.slots)) ++ drop k (drop a s.slots)) ≡ (after s c m).slots
   unfolding slots_after after with_set
   slots_end (none answer) f a k ea ek h = part_same s.slots a k
@@ -133,53 +133,53 @@ module _ (s : Store) (c : ℕ) (lent : Scratch) (free : closed s c || too_short 
         counts_there = ltb-false (length lent.counts) 8192 (or_right (x || y) z short);
       }
 
-  pub ends_in_slots : (a r : ℕ) → a ≡ slotBase s c → r ≡ share s c → a + r ≤ length s.slots
+  pub ends_in_slots : (a r : ℕ) → a ≡ slot_base s c → r ≡ share s c → a + r ≤ length s.slots
   ends_in_slots a r ea er = omega (arith, in_slots s c (share s c) opens (le_of_eq refl), ea, er)
 
   pub ends_in_excesses : (b : ℕ) → b ≡ c * 8192 → b + 8192 ≤ length s.excesses
   ends_in_excesses b eb = omega (arith, opens.all_excesses, opens.one_of_two, eb)
 
-  pub slots_long : (a r : ℕ) → a ≡ slotBase s c → r ≡ share s c → length (take (a + r - a) (drop a s.slots)) ≡ share s c
+  pub slots_long : (a r : ℕ) → a ≡ slot_base s c → r ≡ share s c → length (take (a + r - a) (drop a s.slots)) ≡ share s c
   slots_long a r ea er = part_size s.slots a r (ends_in_slots a r ea er) ∙ er
 
   pub excesses_long : (b : ℕ) → b ≡ c * 8192 → length (take (b + 8192 - b) (drop b s.excesses)) ≡ 8192
   excesses_long b eb = part_size s.excesses b 8192 (ends_in_excesses b eb)
 
   -- ---- everything that `place` leaves, by what `make` and `keep` left
-  module _ (q : Request) (a r b : ℕ) (ea : a ≡ slotBase s c) (er : r ≡ share s c) (eb : b ≡ c * 8192) where
-    abbrev pub partSlots : List ℤ
-    partSlots = take (a + r - a) (drop a s.slots)
+  module _ (q : Request) (a r b : ℕ) (ea : a ≡ slot_base s c) (er : r ≡ share s c) (eb : b ≡ c * 8192) where
+    abbrev pub part_slots : List ℤ
+    part_slots = take (a + r - a) (drop a s.slots)
 
-    abbrev pub partExcesses : List ℤ
-    partExcesses = take (b + 8192 - b) (drop b s.excesses)
+    abbrev pub part_excesses : List ℤ
+    part_excesses = take (b + 8192 - b) (drop b s.excesses)
 
     abbrev here : Made
-    here = made_of q (length partSlots)
+    here = made_of q (length part_slots)
 
     abbrev there : Made
     there = made_of q (share s c)
 
-    long : length partSlots ≡ share s c
+    long : length part_slots ≡ share s c
     long = slots_long a r ea er
 
     same : here ≡ there
     same = ap (made_of q) long
 
-    slots_back : take a s.slots ++ (slots_after here partSlots ++ drop (a + r - a) (drop a s.slots)) ≡ (after s c there).slots
+    slots_back : take a s.slots ++ (slots_after here part_slots ++ drop (a + r - a) (drop a s.slots)) ≡ (after s c there).slots
     slots_back =
-        slots_end s c q (length partSlots) here (made_fits q (length partSlots)) a (a + r - a) ea (omega (arith, long, er)) (omega (arith, ends_in_slots a r ea er))
+        slots_end s c q (length part_slots) here (made_fits q (length part_slots)) a (a + r - a) ea (omega (arith, long, er)) (omega (arith, ends_in_slots a r ea er))
         ∙ ap (λ (m : Made). (after s c m).slots) same
 
-    excesses_back : take b s.excesses ++ (excesses_after here partExcesses ++ drop (b + 8192 - b) (drop b s.excesses)) ≡ (after s c there).excesses
+    excesses_back : take b s.excesses ++ (excesses_after here part_excesses ++ drop (b + 8192 - b) (drop b s.excesses)) ≡ (after s c there).excesses
     excesses_back =
-        excesses_end s c q (length partSlots) here (made_fits q (length partSlots)) b (b + 8192 - b) eb (omega arith) (omega (arith, ends_in_excesses b eb))
+        excesses_end s c q (length part_slots) here (made_fits q (length part_slots)) b (b + 8192 - b) eb (omega arith) (omega (arith, ends_in_excesses b eb))
         ∙ ap (λ (m : Made). (after s c m).excesses) same
 
     pub placed : (made : Outcome) (slots excesses : List ℤ) (doubles : List Float) (firsts counts numbers starts sizes : List ℕ) (answer : Built)
-        → made ≡ outcome here → slots ≡ slots_after here partSlots → excesses ≡ excesses_after here partExcesses
-        → doubles ≡ lent_by (length partSlots) (weights_of q (length partSlots) 8192 8192) lent.doubles
-        → firsts ≡ lent_by 8192 (starts_of q (length partSlots) 8192 8192) lent.firsts
-        → counts ≡ lent_by 8192 (sizes_of q (length partSlots) 8192 8192) lent.counts
+        → made ≡ outcome here → slots ≡ slots_after here part_slots → excesses ≡ excesses_after here part_excesses
+        → doubles ≡ lent_by (length part_slots) (weights_of q (length part_slots) 8192 8192) lent.doubles
+        → firsts ≡ lent_by 8192 (starts_of q (length part_slots) 8192 8192) lent.firsts
+        → counts ≡ lent_by 8192 (sizes_of q (length part_slots) 8192 8192) lent.counts
         → answer ≡ answer_by made → numbers ≡ numbers_by made c q s.numbers
         → starts ≡ laid_by made c (take q.output firsts) s.starts → sizes ≡ laid_by made c (take q.output counts) s.sizes
         → (answer ≡ answer_of there)
@@ -193,16 +193,16 @@ module _ (s : Store) (c : ℕ) (lent : Scratch) (free : closed s c || too_short 
         × (counts ≡ (built_in q (share s c) lent).counts))))))))
     unfolding built_in
     placed made slots excesses doubles firsts counts numbers starts sizes answer em es ex ed ef ec ea en est esz =
-        let new = new_made q (length partSlots) in (
+        let new = new_made q (length part_slots) in (
           ea ∙ ap answer_by em ∙ answer_is here ∙ ap answer_of same,
           (
-            en ∙ ap (λ (o : Outcome). numbers_by o c q s.numbers) em ∙ numbers_end s c q (length partSlots) here new ∙ ap (λ (m : Made). (after s c m).numbers) same,
+            en ∙ ap (λ (o : Outcome). numbers_by o c q s.numbers) em ∙ numbers_end s c q (length part_slots) here new ∙ ap (λ (m : Made). (after s c m).numbers) same,
             (
               ap (λ (l : List ℤ). take a s.slots ++ (l ++ drop (a + r - a) (drop a s.slots))) es ∙ slots_back,
               (
-                est ∙ ap (λ (o : Outcome). laid_by o c (take q.output firsts) s.starts) em ∙ starts_end s c q (length partSlots) here new lent.firsts firsts ef ∙ ap (λ (m : Made). (after s c m).starts) same,
+                est ∙ ap (λ (o : Outcome). laid_by o c (take q.output firsts) s.starts) em ∙ starts_end s c q (length part_slots) here new lent.firsts firsts ef ∙ ap (λ (m : Made). (after s c m).starts) same,
                 (
-                  esz ∙ ap (λ (o : Outcome). laid_by o c (take q.output counts) s.sizes) em ∙ sizes_end s c q (length partSlots) here new lent.counts counts ec ∙ ap (λ (m : Made). (after s c m).sizes) same,
+                  esz ∙ ap (λ (o : Outcome). laid_by o c (take q.output counts) s.sizes) em ∙ sizes_end s c q (length part_slots) here new lent.counts counts ec ∙ ap (λ (m : Made). (after s c m).sizes) same,
                   (
                     ap (λ (l : List ℤ). take b s.excesses ++ (l ++ drop (b + 8192 - b) (drop b s.excesses))) ex ∙ excesses_back,
                     (

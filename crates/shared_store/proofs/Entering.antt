@@ -1,6 +1,6 @@
 -- A set of a retired filter, one that is barred, and one that is neither: what `put` answers and leaves, by the two tests that it asks first. Cited by the proof of `put`. Assumes nothing.
 use mathlib.Core.Path.{◌≡◌, refl, sym, ap, ◌∙◌}
-use mathlib.Core.Bool.{Bool, true, false, ◌||◌}
+use mathlib.Core.Bool.{true, false, ◌||◌}
 use mathlib.Core.List.{List}
 use Prim.Native.Nat.{ℕ}
 use lib.Ieee.{Float}
@@ -10,24 +10,24 @@ use Rattle.filters.specs.Names.{is_retired}
 use Rattle.plans.specs.declared.Request.{Request}
 use Rattle.coefficients.specs.declared.Built.{Built}
 use Rattle.coefficients.specs.declared.Built.TheVariants.{Refused}
-use Rattle.made_sets.specs.Made.{Made, made_of, refused_by, answer_of}
+use Rattle.made_sets.specs.Made.{Made, made_of, answer_of}
 use Rattle.shares.specs.Store.{Store, share, closed, view_of}
 use Rattle.shares.specs.Scratch.{Scratch, too_short, built_in}
-use Rattle.shares.specs.Machine.{entered, put_of, after, putAnswer, scratchAfter, puts, by, next}
+use Rattle.shares.specs.Machine.{entered, put_of, after, put_answer, scratch_after, puts, by, next}
 
 module _ (s : Store) (c : ℕ) (q : Request) (lent : Scratch) where
   -- the answer and the eight lists, as a put gives them
   abbrev pub Put : Built → List ℕ → List ℤ → List ℕ → List ℕ → List ℤ → List Float → List ℕ → List ℕ → Type 0
   Put answer numbers slots starts sizes excesses doubles firsts counts =
-      (answer ≡ putAnswer (view_of s c) q lent)
+      (answer ≡ put_answer (view_of s c) q lent)
       × ((numbers ≡ (next s (by c (puts q lent))).numbers)
       × ((slots ≡ (next s (by c (puts q lent))).slots)
       × ((starts ≡ (next s (by c (puts q lent))).starts)
       × ((sizes ≡ (next s (by c (puts q lent))).sizes)
       × ((excesses ≡ (next s (by c (puts q lent))).excesses)
-      × ((doubles ≡ (scratchAfter (view_of s c) q lent).doubles)
-      × ((firsts ≡ (scratchAfter (view_of s c) q lent).firsts)
-      × (counts ≡ (scratchAfter (view_of s c) q lent).counts))))))))
+      × ((doubles ≡ (scratch_after (view_of s c) q lent).doubles)
+      × ((firsts ≡ (scratch_after (view_of s c) q lent).firsts)
+      × (counts ≡ (scratch_after (view_of s c) q lent).counts))))))))
 
   pub retired_put : is_retired q.filter ≡ true → Put (Refused RetiredFilter) s.numbers s.slots s.starts s.sizes s.excesses lent.doubles lent.firsts lent.counts
   unfolding put_of entered answer_of next after
@@ -42,7 +42,7 @@ module _ (s : Store) (c : ℕ) (q : Request) (lent : Scratch) where
     unfolding put_of entered view_of
     put_is = rw (k, h)
 
-    scratch_is : scratchAfter (view_of s c) q lent ≡ built_in q (share s c) lent
+    scratch_is : scratch_after (view_of s c) q lent ≡ built_in q (share s c) lent
     unfolding entered view_of
     scratch_is = rw (k, h)
 

@@ -1,5 +1,5 @@
 -- What is known of a place that was found, and of a client that holds nothing. Cited by the proof of `pass`. Assumes nothing.
-use mathlib.Core.Path.{◌≡◌, refl, sym, ap, ◌∙◌, subst}
+use mathlib.Core.Path.{◌≡◌, refl, ap, ◌∙◌, subst}
 use mathlib.Core.Bool.{Bool, true, false, cond, ◌||◌}
 use mathlib.Core.List.{List}
 use Prim.Native.Nat.{ℕ, ◌+◌, ◌-◌, ◌*◌, ◌≤◌}
@@ -7,12 +7,12 @@ use native.Mathlib.Omega.{arith}
 use lib.IntN.{ℤ}
 use lib.ListN.{length}
 use Rattle.lists.proofs.BoolLaws.{or_left, or_right}
-use Rattle.windows.specs.Set.{layout_of, set_of, Stored, stored_of}
+use Rattle.windows.specs.Set.{layout_of, set_of, stored_of}
 use Rattle.share_lists.specs.declared.Place.{Place}
 use Rattle.share_lists.specs.declared.Found.{Found}
 use Rattle.share_lists.specs.declared.Found.TheVariants.{Nothing, At}
-use Rattle.share_lists.specs.Inner.{place_of, foundIn}
-use Rattle.shares.specs.Store.{Store, part, share, held, wide, slotBase, line_base, closed, unset, set_at, Held, nothing, holding, held_in}
+use Rattle.share_lists.specs.Inner.{place_of, found_in}
+use Rattle.shares.specs.Store.{Store, part, held, wide, slot_base, line_base, closed, unset, set_at, nothing, holding, held_in}
 use Rattle.shares.proofs.Opened.{open_store, inside_part, in_slots}
 use Rattle.share_passes.specs.Inner.{set_in}
 
@@ -46,14 +46,14 @@ at_place s c h =
       in_excesses = omega (arith, o.all_excesses, o.one_of_two, i.few);
       holds =
           ap (λ (b : Bool). cond b nothing (holding (set_at s c))) h
-          ∙ ap holding (set_by _ _ _ (slotBase s c) (line_base c) (held s c) (held s c * wide s c) _ _ s.slots s.starts s.sizes s.excesses (len (slotBase s c) (held s c * wide s c)) (len (line_base c) (held s c)));
+          ∙ ap holding (set_by _ _ _ (slot_base s c) (line_base c) (held s c) (held s c * wide s c) _ _ s.slots s.starts s.sizes s.excesses (len (slot_base s c) (held s c * wide s c)) (len (line_base c) (held s c)));
     }
 
 abbrev pub found_for : Store → ℕ → Found
-found_for s c = foundIn s.numbers (length s.slots) (length s.starts) (length s.sizes) (length s.excesses) c
+found_for s c = found_in s.numbers (length s.slots) (length s.starts) (length s.sizes) (length s.excesses) c
 
 pub found_at : (s : Store) (c : ℕ) (p : Place) → found_for s c ≡ At p → FoundAt s c p
-unfolding foundIn closed unset
+unfolding found_in closed unset
 found_at s c p h = go (closed s c || unset s c) refl h
   where
     go : (t : Bool) → closed s c || unset s c ≡ t → cond t Nothing (At (place_of s.numbers c)) ≡ At p → FoundAt s c p
@@ -61,7 +61,7 @@ found_at s c p h = go (closed s c || unset s c) refl h
     go false e g = let same : place_of s.numbers c ≡ p = cc in subst (FoundAt s c) same (at_place s c e)
 
 pub found_none : (s : Store) (c : ℕ) → found_for s c ≡ Nothing → held_in s c ≡ nothing
-unfolding foundIn held_in closed unset
+unfolding found_in held_in closed unset
 found_none s c h = go (closed s c || unset s c) h
   where
     go : (t : Bool) → cond t Nothing (At (place_of s.numbers c)) ≡ Nothing → cond t nothing (holding (set_at s c)) ≡ nothing

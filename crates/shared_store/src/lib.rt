@@ -6,7 +6,7 @@
 ghost use Rattle.std.specs.Prelude.{◌≡◌, length};
 ghost use Rattle.shares.specs.Store.{store_of, view_of};
 ghost use Rattle.shares.specs.Scratch.{scratch_of};
-ghost use Rattle.shares.specs.Machine.{next, by, puts, putAnswer, scratchAfter, passAnswer, passOutput};
+ghost use Rattle.shares.specs.Machine.{next, by, puts, put_answer, scratch_after, pass_answer, pass_output};
 
 use coefficients::Built;
 use plans::Request;
@@ -30,15 +30,15 @@ pub fn put(
     firsts: &mut [u32],
     counts: &mut [u32],
 ) -> Built
-    ensures answer { result ≡ putAnswer (view_of (store_of numbers.old slots.old starts.old sizes.old excesses.old) client) request (scratch_of doubles.old firsts.old counts.old) }
+    ensures answer { result ≡ put_answer (view_of (store_of numbers.old slots.old starts.old sizes.old excesses.old) client) request (scratch_of doubles.old firsts.old counts.old) }
     ensures written { numbers.new ≡ (next (store_of numbers.old slots.old starts.old sizes.old excesses.old) (by client (puts request (scratch_of doubles.old firsts.old counts.old)))).numbers }
     ensures written2 { slots.new ≡ (next (store_of numbers.old slots.old starts.old sizes.old excesses.old) (by client (puts request (scratch_of doubles.old firsts.old counts.old)))).slots }
     ensures written3 { starts.new ≡ (next (store_of numbers.old slots.old starts.old sizes.old excesses.old) (by client (puts request (scratch_of doubles.old firsts.old counts.old)))).starts }
     ensures written4 { sizes.new ≡ (next (store_of numbers.old slots.old starts.old sizes.old excesses.old) (by client (puts request (scratch_of doubles.old firsts.old counts.old)))).sizes }
     ensures written5 { excesses.new ≡ (next (store_of numbers.old slots.old starts.old sizes.old excesses.old) (by client (puts request (scratch_of doubles.old firsts.old counts.old)))).excesses }
-    ensures written6 { doubles.new ≡ (scratchAfter (view_of (store_of numbers.old slots.old starts.old sizes.old excesses.old) client) request (scratch_of doubles.old firsts.old counts.old)).doubles }
-    ensures written7 { firsts.new ≡ (scratchAfter (view_of (store_of numbers.old slots.old starts.old sizes.old excesses.old) client) request (scratch_of doubles.old firsts.old counts.old)).firsts }
-    ensures written8 { counts.new ≡ (scratchAfter (view_of (store_of numbers.old slots.old starts.old sizes.old excesses.old) client) request (scratch_of doubles.old firsts.old counts.old)).counts }
+    ensures written6 { doubles.new ≡ (scratch_after (view_of (store_of numbers.old slots.old starts.old sizes.old excesses.old) client) request (scratch_of doubles.old firsts.old counts.old)).doubles }
+    ensures written7 { firsts.new ≡ (scratch_after (view_of (store_of numbers.old slots.old starts.old sizes.old excesses.old) client) request (scratch_of doubles.old firsts.old counts.old)).firsts }
+    ensures written8 { counts.new ≡ (scratch_after (view_of (store_of numbers.old slots.old starts.old sizes.old excesses.old) client) request (scratch_of doubles.old firsts.old counts.old)).counts }
 {
     let kind = request.filter;
     if filters::retired(kind) {
@@ -76,8 +76,8 @@ pub fn pass(
     count: u32,
     out: &mut [u16],
 ) -> Passed
-    ensures answer { result ≡ passAnswer (view_of (store_of numbers.now slots.now starts.now sizes.now excesses.now) client) src.now row first count (length out.old) }
-    ensures written { out.new ≡ passOutput (view_of (store_of numbers.now slots.now starts.now sizes.now excesses.now) client) src.now row first count out.old }
+    ensures answer { result ≡ pass_answer (view_of (store_of numbers.now slots.now starts.now sizes.now excesses.now) client) src.now row first count (length out.old) }
+    ensures written { out.new ≡ pass_output (view_of (store_of numbers.now slots.now starts.now sizes.now excesses.now) client) src.now row first count out.old }
 {
     let found = find(
         numbers,

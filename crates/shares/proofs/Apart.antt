@@ -1,7 +1,7 @@
 -- Neither client sees the other, over runs of any length. Each call moves the caller's view as `view_after` says, a function of that view, and no other's; so by induction over
 -- the run what a client gets is a function of its view and its own calls (`alone`), and a restart leaves views that depend on the shares alone. Assumes nothing.
 use mathlib.Core.Path.{◌≡◌, refl, sym, ap, ◌∙◌, subst}
-use mathlib.Core.Bool.{Bool, true, false, cond, not, ◌||◌}
+use mathlib.Core.Bool.{Bool, true, false, cond, ◌||◌}
 use mathlib.Core.List.{List, [], ◌∷◌}
 use Prim.Native.Nat.{ℕ, zero, suc, ◌+◌, ◌*◌, ◌≤◌}
 use native.Mathlib.Omega.{arith}
@@ -15,7 +15,7 @@ use Rattle.made_sets.specs.Made.{Made, new, none, refused_by, made_of}
 use Rattle.made_sets.proofs.Made.{FitsMade, made_fits}
 use Rattle.shares.specs.declared.Restarted.TheVariants.{Done, Refused}
 use Rattle.shares.specs.Restarted.{number_of}
-use Rattle.shares.specs.Store.{Store, store_of, number, share, closed, unset, bad_lists_value, Held, nothing, holding, held_in, View, view_with, view_of}
+use Rattle.shares.specs.Store.{Store, store_of, share, closed, unset, bad_lists_value, nothing, holding, held_in, View, view_with, view_of}
 use Rattle.shares.specs.Scratch.{Scratch, too_short}
 use Rattle.shares.specs.Machine.{restarted_of, emptied, numbers_by, entered, put_of, after, Call, puts, passes, restarts, by, answer_to, next, reply_to}
 use Rattle.shares.specs.Runs.{Run, at_end, own, gathered}

@@ -1,13 +1,12 @@
 -- A call of one client leaves the other's part of every list as it was; and a refused call leaves the store as it was, No. 8 included. Assumes nothing.
 use mathlib.Core.Path.{◌≡◌, refl, ap}
-use mathlib.Core.Bool.{Bool, true, false, cond}
 use mathlib.Core.List.{List, [], ◌∷◌}
 use Prim.Native.Nat.{ℕ, ◌+◌, ◌*◌, ◌≤◌}
 use native.Mathlib.Nat.{le_of_eq}
 use native.Mathlib.Omega.{arith}
 use lib.ListN.{length}
 use Rattle.text.specs.Text.{laid}
-use Rattle.windows.specs.Set.{Stored, windows}
+use Rattle.windows.specs.Set.{Stored}
 use Rattle.coefficients.specs.Answer.{number_of as numberOfBuilt}
 use Rattle.made_sets.specs.Made.{Made, new, none, answer_of}
 use Rattle.made_sets.proofs.Made.{Fits}
@@ -18,8 +17,8 @@ use Rattle.vertical.specs.U16.{passed_u16, written_u16}
 use Rattle.shares.specs.declared.Restarted.{Restarted}
 use Rattle.shares.specs.declared.Restarted.TheVariants.{Done, Refused}
 use Rattle.shares.specs.Restarted.{number_of}
-use Rattle.shares.specs.Store.{Store, store_of, part, line_base, share, Held, nothing, holding, view_of}
-use Rattle.shares.specs.Machine.{restarted_of, numbers_by, put_of, with_set, after, passed_with, written_with, puts, passes, by, next}
+use Rattle.shares.specs.Store.{Store, store_of, part, share, Held, nothing, holding, view_of}
+use Rattle.shares.specs.Machine.{restarted_of, numbers_by, put_of, with_set, after, passed_with, written_with, puts, passes, next}
 use Rattle.shares.specs.Apart.{PartsKept, OtherPartsKept, RefusedUnchanged}
 use Rattle.shares.proofs.Parts.{part_before, part_behind}
 use Rattle.shares.proofs.Opened.{Open, open_store, pick}

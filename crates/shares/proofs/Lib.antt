@@ -4,5 +4,6 @@ pub mod OtherView
 pub mod OwnView
 pub mod Apart
 pub mod Kept
+pub mod Tests
 pub mod Rows
 pub mod Sure

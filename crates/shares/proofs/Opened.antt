@@ -1,15 +1,14 @@
 -- What is known of a store that is open to a client, of a set that stands in its client's part, and of the numbers of two clients that are not the same. Cited by OtherView,
 -- OwnView and Kept, and by the proofs of `shared_store`. Assumes nothing.
 use mathlib.Core.Path.{◌≡◌, refl, ap}
-use mathlib.Core.Bool.{Bool, true, false, not, ◌||◌}
+use mathlib.Core.Bool.{Bool, false, not, ◌||◌}
 use Prim.Native.Nat.{ℕ, zero, suc, ◌+◌, ◌*◌, ◌≤◌, ◌<◌}
-use native.Mathlib.Nat.{le_of_eq}
 use native.Mathlib.Omega.{arith}
 use lib.Dec.{eqb, ltb}
 use lib.ListN.{length}
 use borrow.Author.Tests.{ltb-false, le-ltb, ne_eqb, eqb-true, not-false}
 use Rattle.lists.proofs.BoolLaws.{or_left, or_right}
-use Rattle.shares.specs.Store.{Store, share, held, wide, slotBase, closed, unset}
+use Rattle.shares.specs.Store.{Store, share, held, wide, slot_base, closed, unset}
 
 pub record Open (s : Store) (c : ℕ) : Type 0 where
   pub ten : length s.numbers ≡ 10
@@ -87,7 +86,7 @@ ends zero n x y z l one e0 e1 h k = omega (arith, e0 refl)
 ends (suc zero) n x y z l one e0 e1 h k = omega (arith, e1 refl)
 ends (suc (suc c)) n x y z l one e0 e1 h k = absurd (omega arith)
 
-pub in_slots : (s : Store) (c n : ℕ) → Open s c → n ≤ share s c → slotBase s c + n ≤ length s.slots
+pub in_slots : (s : Store) (c n : ℕ) → Open s c → n ≤ share s c → slot_base s c + n ≤ length s.slots
 in_slots s c n o h = ends c n (share s 0) (share s 1) (share s c) (length s.slots) o.one_of_two (λ e. ap (share s) e) (λ e. ap (share s) e) h o.shares
 
 -- two clients, each one of two and not the same

@@ -15,7 +15,7 @@ use Rattle.text.specs.Text.{laid}
 use Rattle.text.proofs.TextLaws.{length_laid}
 use Rattle.windows.specs.Set.{layout_of, set_of, Stored, stored_of, windows}
 use Rattle.made_sets.proofs.Made.{Fits, weights_room}
-use Rattle.shares.specs.Store.{Store, part, line_base, number, share, held, wide, slotBase, bad_lists_value, closed, unset, set_at, Held, nothing, holding, held_in, View, view_with, view_of}
+use Rattle.shares.specs.Store.{Store, part, line_base, number, share, held, wide, slot_base, closed, unset, set_at, Held, nothing, holding, held_in, view_with, view_of}
 use Rattle.shares.specs.Machine.{with_set}
 use Rattle.shares.proofs.Parts.{part_before, part_behind, at_before, at_behind}
 use Rattle.shares.proofs.Opened.{Open, open_store, Inside, inside_part, pick}
@@ -94,7 +94,7 @@ module _ (s : Store) (d : ℕ) (new : Stored) where
       (length_laid s.starts (line_base d) new.set.layout.starts)
       (length_laid s.sizes (line_base d) new.set.layout.sizes)
       (length_laid s.excesses (line_base d) new.excesses)
-      (length_laid s.slots (slotBase s d) new.set.weights)
+      (length_laid s.slots (slot_base s d) new.set.weights)
       (share_same 0)
       (share_same 1)
 
@@ -103,17 +103,17 @@ module _ (s : Store) (d : ℕ) (new : Stored) where
   unset_same c apart =
       unset_ext (held s c) _ (wide s c) _ (share s c) _ (other_number c 2 apart (omega arith)) (other_number c 3 apart (omega arith)) (share_same c)
 
-  pub base_same : (c : ℕ) → slotBase t c ≡ slotBase s c
+  pub base_same : (c : ℕ) → slot_base t c ≡ slot_base s c
   base_same c = ap (λ (x : ℕ). c * x) (share_same 0)
 
   -- ---- the parts of the other client
   module _ (fit : Fits (share s d) new) (open-d : Open s d) where
-    pub other_slots : (c n : ℕ) → (c ≡ d → ⊥) → c ≤ 1 → n ≤ share s c → part (slotBase s c) n t.slots ≡ part (slotBase s c) n s.slots
+    pub other_slots : (c n : ℕ) → (c ≡ d → ⊥) → c ≤ 1 → n ≤ share s c → part (slot_base s c) n t.slots ≡ part (slot_base s c) n s.slots
     unfolding with_set
     other_slots c n apart one r =
         pick c d open-d.one_of_two one apart
-        (λ e1 e2. part_before s.slots new.set.weights (slotBase s d) (slotBase s c) n (low c d n (share s 0) (share s c) e1 e2 (ap (share s) e1) r))
-        (λ e1 e2. part_behind s.slots new.set.weights (slotBase s d) (slotBase s c) n
+        (λ e1 e2. part_before s.slots new.set.weights (slot_base s d) (slot_base s c) n (low c d n (share s 0) (share s c) e1 e2 (ap (share s) e1) r))
+        (λ e1 e2. part_behind s.slots new.set.weights (slot_base s d) (slot_base s c) n
         (high c d (length new.set.weights) (share s 0) (share s d) e1 e2 (ap (share s) e2) (weights_room fit)))
 
     pub other_lines : {A : Type 0} (c n : ℕ) (l Laid-in : List A) → (c ≡ d → ⊥) → c ≤ 1 → n ≤ 8192 → length Laid-in ≤ 8192 → part (line_base c) n (laid l (line_base d) Laid-in) ≡ part (line_base c) n l
@@ -139,7 +139,7 @@ module _ (s : Store) (d : ℕ) (new : Stored) where
         ew
         (part_ext _ (line_base c) _ (held s c) _ refl eh ∙ other_lines c (held s c) s.starts new.set.layout.starts apart one i.few fit.few)
         (part_ext _ (line_base c) _ (held s c) _ refl eh ∙ other_lines c (held s c) s.sizes new.set.layout.sizes apart one i.few few_sizes)
-        (part_ext _ (slotBase s c) _ (held s c * wide s c) _ (base_same c) (times eh ew) ∙ other_slots c (held s c * wide s c) apart one i.room)
+        (part_ext _ (slot_base s c) _ (held s c * wide s c) _ (base_same c) (times eh ew) ∙ other_slots c (held s c * wide s c) apart one i.room)
         (other_number c 4 apart (omega arith))
         (part_ext _ (line_base c) _ (held s c) _ refl eh ∙ other_lines c (held s c) s.excesses new.excesses apart one i.few few_excesses)
 

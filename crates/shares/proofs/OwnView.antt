@@ -1,5 +1,5 @@
 -- The client that puts a set in holds that set: each list is read where it was laid. Cited by Apart. Assumes nothing.
-use mathlib.Core.Path.{◌≡◌, refl, sym, ap, ◌∙◌}
+use mathlib.Core.Path.{◌≡◌, sym, ap, ◌∙◌}
 use mathlib.Core.Bool.{false}
 use mathlib.Core.List.{List, [], ◌∷◌}
 use Prim.Native.Nat.{ℕ, ◌+◌, ◌*◌, ◌≤◌, ◌<◌}
@@ -8,7 +8,7 @@ use lib.ListN.{length, get_or}
 use Rattle.text.specs.Text.{laid}
 use Rattle.windows.specs.Set.{Stored, windows}
 use Rattle.made_sets.proofs.Made.{Fits, weights_room}
-use Rattle.shares.specs.Store.{Store, part, line_base, number, share, held, wide, slotBase, closed, unset, set_at, Held, nothing, holding, held_in, View, view_with, view_of}
+use Rattle.shares.specs.Store.{Store, part, line_base, share, held, wide, slot_base, closed, unset, set_at, nothing, holding, held_in, view_with, view_of}
 use Rattle.shares.specs.Machine.{with_set}
 use Rattle.shares.proofs.Parts.{part_laid, at_laid}
 use Rattle.shares.proofs.Opened.{Open, is_set, in_slots}
@@ -45,8 +45,8 @@ module _ (s : Store) (d : ℕ) (new : Stored) (fit : Fits (share s d) new) (open
       size_is
       (own_lines _ s.starts new.set.layout.starts windows_are fit.few open-d.all_starts)
       (own_lines _ s.sizes new.set.layout.sizes (windows_are ∙ sym fit.pairs) (few_sizes s d new fit open-d) open-d.all_sizes)
-      (part_ext _ (slotBase s d) _ (length new.set.weights) _ (base_same s d new d) (times windows_are size_is ∙ sym fit.full)
-      ∙ part_laid s.slots new.set.weights (slotBase s d) (in_slots s d (length new.set.weights) open-d (weights_room fit)))
+      (part_ext _ (slot_base s d) _ (length new.set.weights) _ (base_same s d new d) (times windows_are size_is ∙ sym fit.full)
+      ∙ part_laid s.slots new.set.weights (slot_base s d) (in_slots s d (length new.set.weights) open-d (weights_room fit)))
       (own_number (d * 5 + 4) 3 (omega arith) (omega arith))
       (own_lines _ s.excesses new.excesses (windows_are ∙ sym fit.each) (few_excesses s d new fit open-d) open-d.all_excesses)
 

@@ -1,7 +1,7 @@
 -- For the customer: each number of a restart, of a set put in and of a pass is given exactly when its test holds and none that is judged before it does, and No. 0 exactly when none
 -- holds; so for every call one row applies and no other. Cited by docs/CONTRACTS.md. Assumes nothing.
 use mathlib.Core.Path.{◌≡◌, refl, sym, ap, ◌∙◌}
-use mathlib.Core.Bool.{Bool, true, false, cond, not, ◌&&◌, ◌||◌}
+use mathlib.Core.Bool.{Bool, true, false, cond, ◌||◌}
 use mathlib.Core.List.{List, [], ◌∷◌}
 use Prim.Native.Nat.{ℕ, ◌+◌}
 use lib.Dec.{ltb}
@@ -16,9 +16,9 @@ use Rattle.filters.specs.declared.Picked.TheVariants.{Is, Retired}
 use Rattle.filters.specs.Names.{picked_of, is_retired}
 use Rattle.filters.proofs.NameLaws.{none_retired, picked_stays}
 use Rattle.crop_box.specs.Crop.{not_finite_value, negative_extent_value, start_outside_value, end_outside_value, crop_of}
-use Rattle.windows.specs.Set.{Stored, windows}
+use Rattle.windows.specs.Set.{windows}
 use Rattle.windows.specs.Store.{store32}
-use Rattle.windows.specs.Fit.{badStored}
+use Rattle.windows.specs.Fit.{bad_stored}
 use Rattle.plans.specs.declared.Edge.{Edge}
 use Rattle.plans.specs.declared.Plan.{Plan}
 use Rattle.plans.specs.declared.Planned.TheVariants.{Ready}
@@ -40,7 +40,8 @@ use Rattle.shares.specs.declared.Restarted.TheVariants.{Done, Refused}
 use Rattle.shares.specs.Restarted.{number_of}
 use Rattle.shares.specs.Store.{Store, bad_lists_value, Held, nothing, holding, View}
 use Rattle.shares.specs.Scratch.{Scratch, too_short}
-use Rattle.shares.specs.Machine.{restarted_of, entered, put_of, putAnswer, passed_with}
+use Rattle.shares.specs.Machine.{restarted_of, entered, put_of, put_answer, passed_with}
+use Rattle.shares.proofs.Tests.{rows_restart, edge, asked, few_slots, some_blank, outside, rows_put, rows_pass}
 
 -- ---- a restart
 numbered : (a b : Bool) → number_of (cond a (Refused DoesNotFit) (cond b (Refused SharesDoNotFit) Done)) ≡ cond a 10 (cond b 15 0)
@@ -49,67 +50,27 @@ numbered false true = refl
 numbered false false = refl
 
 module _ (s : Store) (first second : ℕ) where
-  abbrev pub rowsRestart : List (Bool × ℕ)
-  rowsRestart = (bad_lists_value s, 10) ∷ (ltb (length s.slots) (first + second), 15) ∷ []
-
-  restart_is : number_of (restarted_of s first second) ≡ given rowsRestart
+  restart_is : number_of (restarted_of s first second) ≡ given (rows_restart s first second)
   unfolding restarted_of
   restart_is = numbered (bad_lists_value s) (ltb (length s.slots) (first + second))
 
-  pub restarted_exactly : (n : ℕ) → Exactly (number_of (restarted_of s first second) ≡ n) (Due n rowsRestart)
-  restarted_exactly n = rw restart_is (exactly_due n rowsRestart refl)
+  pub restarted_exactly : (n : ℕ) → Exactly (number_of (restarted_of s first second) ≡ n) (Due n (rows_restart s first second))
+  restarted_exactly n = rw restart_is (exactly_due n (rows_restart s first second) refl)
 
 -- ---- a set put in
 module _ (v : View) (q : Request) (lent : Scratch) where
-  -- the crop along the axis, and the plan of the windows, where the name picks a filter
-  abbrev edge : Edge
-  edge = edge_of q.axis q.width q.height q.crop
-
-  abbrev asked : Filter → Plan
-  asked f = plan_for f q.adapts edge q.output
-
-  -- a test of that plan
-  abbrev ofPlan : (Plan → Bool) → Picked → Bool
-  ofPlan test Retired = false
-  ofPlan test (Is f) = test (asked f)
-
-  abbrev fewSlots : Plan → Bool
-  fewSlots p = too_few_slots p v.room 8192 8192
-
-  abbrev someBlank : Plan → Bool
-  someBlank p = ltb (first_blank p) p.output
-
-  abbrev outside : Plan → Bool
-  outside p = bad_weights store32 (planned_set p) v.room 8192
-
-  -- the name; the client, the lists and what is lent; then the builder's, with 7 against the share; then the weights
-  abbrev pub rowsPut : List (Bool × ℕ)
-  rowsPut =
-      (is_retired q.filter, 16)
-      ∷ (v.shut || too_short v.room lent, 10)
-      ∷ (bad_output q.output || bad_sides_value q.width q.height, 1)
-      ∷ (not_finite_value q.crop, 2)
-      ∷ (negative_extent_value q.crop, 3)
-      ∷ (start_outside_value q.width q.height q.crop, 4)
-      ∷ (end_outside_value q.width q.height q.crop, 5)
-      ∷ (no_scale edge q.output, 6)
-      ∷ (ofPlan fewSlots (picked_of q.filter), 7)
-      ∷ (ofPlan someBlank (picked_of q.filter), 8)
-      ∷ (ofPlan outside (picked_of q.filter), 9)
-      ∷ []
-
   module _ (k : Filter) (is : picked_of q.filter ≡ Is k) where
     stays : is_retired q.filter ≡ false
     stays = picked_stays q.filter k is
 
     -- a set that is built
-    nine : plan_of q ≡ Ready (asked k) → built_of q v.room 8192 8192 ≡ BuiltDone (asked k).window → numberOfBuilt (answer_of (made_of q v.room)) ≡ cond (outside (asked k)) 9 0
+    nine : plan_of q ≡ Ready (asked v q k) → built_of q v.room 8192 8192 ≡ BuiltDone (asked v q k).window → numberOfBuilt (answer_of (made_of q v.room)) ≡ cond (outside v q (asked v q k)) 9 0
     nine ready done =
-        let known : Ready (plan q v.room (asked k).window done) ≡ Ready (asked k) = sym (planned q v.room (asked k).window done).ready ∙ ready in
-        let same : plan q v.room (asked k).window done ≡ asked k = cc in
-        made_number q v.room (asked k).window done ∙ ap (λ (p : Plan). cond (bad_weights store32 (planned_set p) v.room 8192) 9 0) same
+        let known : Ready (plan q v.room (asked v q k).window done) ≡ Ready (asked v q k) = sym (planned q v.room (asked v q k).window done).ready ∙ ready in
+        let same : plan q v.room (asked v q k).window done ≡ asked v q k = cc in
+        made_number q v.room (asked v q k).window done ∙ ap (λ (p : Plan). cond (bad_weights store32 (planned_set p) v.room 8192) 9 0) same
 
-    by : (t a b c d e f g h i : Bool) → v.shut || too_short v.room lent ≡ t → bad_output q.output ≡ a → bad_sides_value q.width q.height ≡ b → not_finite_value q.crop ≡ c → negative_extent_value q.crop ≡ d → start_outside_value q.width q.height q.crop ≡ e → end_outside_value q.width q.height q.crop ≡ f → no_scale edge q.output ≡ g → fewSlots (asked k) ≡ h → someBlank (asked k) ≡ i → numberOfBuilt (putAnswer v q lent) ≡ given rowsPut
+    by : (t a b c d e f g h i : Bool) → v.shut || too_short v.room lent ≡ t → bad_output q.output ≡ a → bad_sides_value q.width q.height ≡ b → not_finite_value q.crop ≡ c → negative_extent_value q.crop ≡ d → start_outside_value q.width q.height q.crop ≡ e → end_outside_value q.width q.height q.crop ≡ f → no_scale (edge v q) q.output ≡ g → few_slots v q (asked v q k) ≡ h → some_blank v q (asked v q k) ≡ i → numberOfBuilt (put_answer v q lent) ≡ given (rows_put v q lent)
     unfolding put_of entered answer_of made_of plan_of plan_with_value after_crop crop_of scaled judged or_zero
     by true a b c d e f g h i T A B C D E F G H I = rw (stays, is, T)
     by false true b c d e f g h i T A B C D E F G H I = rw (stays, is, T, A)
@@ -122,50 +83,38 @@ module _ (v : View) (q : Request) (lent : Scratch) where
     by false false false false false false false false true i T A B C D E F G H I = rw (stays, is, T, A, B, C, D, E, F, G, H)
     by false false false false false false false false false true T A B C D E F G H I = rw (stays, is, T, A, B, C, D, E, F, G, H, I)
     by false false false false false false false false false false T A B C D E F G H I =
-        let ready : plan_of q ≡ Ready (asked k) = rw (is, A, B, C, D, E, F, G) in
-        let done : built_of q v.room 8192 8192 ≡ BuiltDone (asked k).window = rw (is, A, B, C, D, E, F, G, H, I) in
+        let ready : plan_of q ≡ Ready (asked v q k) = rw (is, A, B, C, D, E, F, G) in
+        let done : built_of q v.room 8192 8192 ≡ BuiltDone (asked v q k).window = rw (is, A, B, C, D, E, F, G, H, I) in
         let last = nine ready done in
         rw (stays, is, T, A, B, C, D, E, F, G, H, I) (rw (is, A, B, C, D, E, F, G, H, I) at last)
 
   -- and where the name is retired
-  first : picked_of q.filter ≡ Retired → numberOfBuilt (putAnswer v q lent) ≡ given rowsPut
+  first : picked_of q.filter ≡ Retired → numberOfBuilt (put_answer v q lent) ≡ given (rows_put v q lent)
   unfolding put_of entered answer_of
   first is = rw (none_retired q.filter is)
 
-  put_is : numberOfBuilt (putAnswer v q lent) ≡ given rowsPut
+  put_is : numberOfBuilt (put_answer v q lent) ≡ given (rows_put v q lent)
   put_is = go (picked_of q.filter) refl
     where
-      go : (x : Picked) → picked_of q.filter ≡ x → numberOfBuilt (putAnswer v q lent) ≡ given rowsPut
+      go : (x : Picked) → picked_of q.filter ≡ x → numberOfBuilt (put_answer v q lent) ≡ given (rows_put v q lent)
       go Retired e = first e
       go (Is k) e = by k e _ _ _ _ _ _ _ _ _ _ refl refl refl refl refl refl refl refl refl refl
 
-  pub put_exactly : (n : ℕ) → Exactly (numberOfBuilt (putAnswer v q lent) ≡ n) (Due n rowsPut)
-  put_exactly n = rw put_is (exactly_due n rowsPut refl)
+  pub put_exactly : (n : ℕ) → Exactly (numberOfBuilt (put_answer v q lent) ≡ n) (Due n (rows_put v q lent))
+  put_exactly n = rw put_is (exactly_due n (rows_put v q lent) refl)
 
--- ---- a pass: 10 of the client comes before 1, so each of the two is said whole
-abbrev pub bad_size_of : Held → ℕ → Bool
-bad_size_of nothing row = false
-bad_size_of (holding s) row = bad_size s.set.layout.lines (windows s.set.layout) row
-
-abbrev pub misfits : Held → ℕ → ℕ → ℕ → ℕ → ℕ → Bool
-misfits nothing samples row first count room = true
-misfits (holding s) samples row first count room = badStored s store32 || bad_area s.set.layout.lines (windows s.set.layout) samples row first count room
-
-module _ (has : Held) (samples row first count room : ℕ) where
-  abbrev pub rowsPass : List (Bool × ℕ)
-  rowsPass = (bad_size_of has row, 1) ∷ (misfits has samples row first count room, 10) ∷ []
-
+-- ---- a pass
 passed_is : (a b c : Bool) → numberOfPassed (cond a (PassRefused BadSide) (cond b (PassRefused DoesNotFit) (cond c (PassRefused DoesNotFit) Passing))) ≡ cond a 1 (cond (b || c) 10 0)
 passed_is true b c = refl
 passed_is false true c = refl
 passed_is false false true = refl
 passed_is false false false = refl
 
-pass_is : (has : Held) (samples row first count room : ℕ) → numberOfPassed (passed_with has samples row first count room) ≡ given (rowsPass has samples row first count room)
+pass_is : (has : Held) (samples row first count room : ℕ) → numberOfPassed (passed_with has samples row first count room) ≡ given (rows_pass has samples row first count room)
 unfolding passed_with passed_u16
 pass_is nothing samples row first count room = refl
 pass_is (holding s) samples row first count room =
-    passed_is (bad_size s.set.layout.lines (windows s.set.layout) row) (badStored s store32) (bad_area s.set.layout.lines (windows s.set.layout) samples row first count room)
+    passed_is (bad_size s.set.layout.lines (windows s.set.layout) row) (bad_stored s store32) (bad_area s.set.layout.lines (windows s.set.layout) samples row first count room)
 
-pub passed_exactly : (has : Held) (samples row first count room n : ℕ) → Exactly (numberOfPassed (passed_with has samples row first count room) ≡ n) (Due n (rowsPass has samples row first count room))
-passed_exactly has samples row first count room n = rw (pass_is has samples row first count room) (exactly_due n (rowsPass has samples row first count room) refl)
+pub passed_exactly : (has : Held) (samples row first count room n : ℕ) → Exactly (numberOfPassed (passed_with has samples row first count room) ≡ n) (Due n (rows_pass has samples row first count room))
+passed_exactly has samples row first count room n = rw (pass_is has samples row first count room) (exactly_due n (rows_pass has samples row first count room) refl)

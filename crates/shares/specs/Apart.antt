@@ -8,9 +8,9 @@ use Rattle.coefficients.specs.Answer.{number_of as numberOfBuilt}
 use Rattle.made_sets.specs.Made.{new}
 use Rattle.vertical.specs.Passed.{number_of as numberOfPassed}
 use Rattle.shares.specs.Restarted.{number_of}
-use Rattle.shares.specs.Store.{Store, part, share, slotBase, line_base, held_in, nothing, holding, View, view_with, view_of}
+use Rattle.shares.specs.Store.{Store, part, share, slot_base, line_base, held_in, nothing, holding, view_with, view_of}
 use Rattle.shares.specs.Scratch.{Scratch}
-use Rattle.shares.specs.Machine.{restarted_of, put_of, putAnswer, passAnswer, passOutput, Call, puts, Step, restarts, by, next}
+use Rattle.shares.specs.Machine.{restarted_of, put_of, put_answer, pass_answer, pass_output, Call, puts, restarts, by, next}
 use Rattle.shares.specs.Runs.{Run, at_end, own, answers, used}
 
 -- two runs, from two stores, are the same to client c: the answers and outputs, the weights in use at each call, and the set that it holds at the end
@@ -39,7 +39,7 @@ SameFromTheSame = (c : ℕ) (s t : Store) (xs ys : Run) → view_of s c ≡ view
 -- the part of every list that is client c's in store s, in store t as in s
 pub record PartsKept (c : ℕ) (s t : Store) : Type 0 where
   pub numbers : part (c * 5) 5 t.numbers ≡ part (c * 5) 5 s.numbers
-  pub slots : part (slotBase s c) (share s c) t.slots ≡ part (slotBase s c) (share s c) s.slots
+  pub slots : part (slot_base s c) (share s c) t.slots ≡ part (slot_base s c) (share s c) s.slots
   pub starts : part (line_base c) 8192 t.starts ≡ part (line_base c) 8192 s.starts
   pub sizes : part (line_base c) 8192 t.sizes ≡ part (line_base c) 8192 s.sizes
   pub excesses : part (line_base c) 8192 t.excesses ≡ part (line_base c) 8192 s.excesses
@@ -59,5 +59,5 @@ PutHeld = (s : Store) (c : ℕ) (q : Request) (lent : Scratch) (stored : Stored)
 -- a refused call leaves the store as it was, No. 8 included, and a refused pass its output
 pub record RefusedUnchanged : Type 0 where
   pub restart : (s : Store) (a b : ℕ) → (number_of (restarted_of s a b) ≡ 0 → ⊥) → next s (restarts a b) ≡ s
-  pub put : (s : Store) (c : ℕ) (q : Request) (lent : Scratch) → (numberOfBuilt (putAnswer (view_of s c) q lent) ≡ 0 → ⊥) → next s (by c (puts q lent)) ≡ s
-  pub pass : (s : Store) (c : ℕ) (src : List ℕ) (row first count : ℕ) (out : List ℕ) → (numberOfPassed (passAnswer (view_of s c) src row first count (length out)) ≡ 0 → ⊥) → passOutput (view_of s c) src row first count out ≡ out
+  pub put : (s : Store) (c : ℕ) (q : Request) (lent : Scratch) → (numberOfBuilt (put_answer (view_of s c) q lent) ≡ 0 → ⊥) → next s (by c (puts q lent)) ≡ s
+  pub pass : (s : Store) (c : ℕ) (src : List ℕ) (row first count : ℕ) (out : List ℕ) → (numberOfPassed (pass_answer (view_of s c) src row first count (length out)) ≡ 0 → ⊥) → pass_output (view_of s c) src row first count out ≡ out

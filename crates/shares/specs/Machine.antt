@@ -1,6 +1,6 @@
 -- The shared store as a machine: a store, a call, the store and the answer after it. What a client is answered is said of its view (`View`), so that it rests on
 -- nothing else by form. Cited by the contracts of `restart`, `put` and `pass`, which are the steps. Definitions only. Assumes nothing.
-use Rattle.std.specs.Prelude.{Bool, cond, ◌||◌, List, [], ◌∷◌, ℕ, ◌+◌, ◌*◌, ltb, length}
+use Rattle.std.specs.Prelude.{cond, ◌||◌, List, [], ◌∷◌, ℕ, ◌+◌, ◌*◌, ltb, length}
 use Rattle.text.specs.Text.{laid}
 use Rattle.refusal.specs.declared.Refusal.{Refusal}
 use Rattle.refusal.specs.declared.Refusal.TheVariants.{DoesNotFit, SharesDoNotFit, RetiredFilter}
@@ -14,7 +14,7 @@ use Rattle.vertical.specs.declared.Passed.TheVariants.{Refused as PassRefused}
 use Rattle.vertical.specs.U16.{passed_u16, written_u16}
 use Rattle.shares.specs.declared.Restarted.{Restarted}
 use Rattle.shares.specs.declared.Restarted.TheVariants.{Done, Refused}
-use Rattle.shares.specs.Store.{Store, store_of, slotBase, line_base, bad_lists_value, Held, nothing, holding, View, view_of}
+use Rattle.shares.specs.Store.{Store, store_of, slot_base, line_base, bad_lists_value, Held, nothing, holding, View, view_of}
 use Rattle.shares.specs.Scratch.{Scratch, too_short, built_in}
 
 -- ---- a restart
@@ -49,7 +49,7 @@ unfoldable pub with_set : Store → ℕ → Stored → Store
 with_set s c stored =
     store_of
     (laid s.numbers (c * 5 + 1) (stored.set.layout.lines ∷ windows stored.set.layout ∷ stored.set.layout.window_size_value ∷ stored.precision ∷ []))
-    (laid s.slots (slotBase s c) stored.set.weights)
+    (laid s.slots (slot_base s c) stored.set.weights)
     (laid s.starts (line_base c) stored.set.layout.starts)
     (laid s.sizes (line_base c) stored.set.layout.sizes)
     (laid s.excesses (line_base c) stored.excesses)
@@ -70,17 +70,17 @@ written_with (holding stored) src row first count old = written_u16 stored src r
 
 -- ---- what a client gets back
 module _ (v : View) where
-  abbrev pub putAnswer : Request → Scratch → Built
-  putAnswer q lent = answer_of (put_of v q lent)
+  abbrev pub put_answer : Request → Scratch → Built
+  put_answer q lent = answer_of (put_of v q lent)
 
-  abbrev pub scratchAfter : Request → Scratch → Scratch
-  scratchAfter q lent = entered v q lent (λ refusal. lent) (built_in q v.room lent)
+  abbrev pub scratch_after : Request → Scratch → Scratch
+  scratch_after q lent = entered v q lent (λ refusal. lent) (built_in q v.room lent)
 
-  abbrev pub passAnswer : List ℕ → ℕ → ℕ → ℕ → ℕ → Passed
-  passAnswer src row first count room = passed_with v.has (length src) row first count room
+  abbrev pub pass_answer : List ℕ → ℕ → ℕ → ℕ → ℕ → Passed
+  pass_answer src row first count room = passed_with v.has (length src) row first count room
 
-  abbrev pub passOutput : List ℕ → ℕ → ℕ → ℕ → List ℕ → List ℕ
-  passOutput src row first count out = written_with v.has src row first count out
+  abbrev pub pass_output : List ℕ → ℕ → ℕ → ℕ → List ℕ → List ℕ
+  pass_output src row first count out = written_with v.has src row first count out
 
 -- ---- the machine
 -- what a client calls: a set put in, with the lists lent to the builder; a pass over a frame, with its row length, first column and count of columns, and the list lent for the output
@@ -96,8 +96,8 @@ pub data Answer : Type 0 where
 
 -- to a client, by what it sees
 unfoldable pub reply_to : View → Call → Answer
-reply_to v (puts q lent) = was_put (putAnswer v q lent) (scratchAfter v q lent)
-reply_to v (passes src row first count out) = passed (passAnswer v src row first count (length out)) (passOutput v src row first count out)
+reply_to v (puts q lent) = was_put (put_answer v q lent) (scratch_after v q lent)
+reply_to v (passes src row first count out) = passed (pass_answer v src row first count (length out)) (pass_output v src row first count out)
 
 -- a step: a restart, which is common to both, or a call by a client
 pub data Step : Type 0 where

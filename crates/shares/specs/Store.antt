@@ -56,8 +56,8 @@ module _ (s : Store) where
   wide c = number c 3
 
   -- where its slots begin: client 1's behind those of client 0
-  abbrev pub slotBase : ℕ → ℕ
-  slotBase c = c * share 0
+  abbrev pub slot_base : ℕ → ℕ
+  slot_base c = c * share 0
 
   -- the same of its lists
   abbrev pub bad_lists_value : Bool
@@ -75,7 +75,7 @@ module _ (s : Store) where
   abbrev pub set_at : ℕ → Stored
   set_at c =
       stored_of
-      (set_of (layout_of (number c 1) (wide c) (part (line_base c) (held c) s.starts) (part (line_base c) (held c) s.sizes)) (part (slotBase c) (held c * wide c) s.slots))
+      (set_of (layout_of (number c 1) (wide c) (part (line_base c) (held c) s.starts) (part (line_base c) (held c) s.sizes)) (part (slot_base c) (held c * wide c) s.slots))
       (number c 4)
       (part (line_base c) (held c) s.excesses)
 

@@ -1,5 +1,5 @@
 -- Beginnings of lists that are lent: `l[0..k]` is read as `take (k - 0) (drop 0 l)`, and comes back in front of the rest. Cited by the proofs of `steps`. Assumes nothing.
-use mathlib.Core.Path.{◌≡◌, refl, ap, ◌∙◌}
+use mathlib.Core.Path.{◌≡◌, ap, ◌∙◌}
 use mathlib.Core.List.{List, ◌++◌}
 use Prim.Native.Nat.{ℕ, ◌-◌, ◌*◌, ◌^◌, ◌≤◌, ◌<◌}
 use native.Mathlib.Nat.{mul-le-mul}
@@ -7,7 +7,7 @@ use native.Mathlib.Omega.{arith}
 use lib.Ieee.{Float}
 use lib.ListN.{length, take, drop}
 use lib.Seq.{length-take-le}
-use Rattle.windows.specs.Set.{layout_of, Set, set_of}
+use Rattle.windows.specs.Set.{layout_of, set_of}
 use Rattle.made_sets.specs.Lent.{lent_by}
 
 pub product_fits : (a b : ℕ) → a < 2 ^ 32 → b < 2 ^ 32 → a * b < 2 ^ 64

@@ -1,8 +1,8 @@
 -- What the steps of `make` give is what `made_of` says, by the builder's answer and then by the normaliser's. Cited by the proofs of functions here and of `shared_store`.
 -- Assumes nothing.
-use mathlib.Core.Path.{◌≡◌, refl, sym, ap, ◌∙◌, subst}
+use mathlib.Core.Path.{◌≡◌, refl, sym, ap, ◌∙◌}
 use mathlib.Core.List.{List, ◌++◌}
-use Prim.Native.Nat.{ℕ, ◌-◌, ◌*◌, ◌≤◌}
+use Prim.Native.Nat.{ℕ, ◌*◌, ◌≤◌}
 use native.Mathlib.Nat.{le_trans, le_of_eq}
 use native.Mathlib.Omega.{arith}
 use lib.Ieee.{Float}
@@ -21,7 +21,7 @@ use Rattle.coefficients.specs.declared.Built.TheVariants.{Done, Blank, Refused}
 use Rattle.coefficients.specs.Request.{built_of}
 use Rattle.normalizer.specs.declared.Normalized.{Normalized}
 use Rattle.normalizer.specs.declared.Normalized.TheVariants.{Done as Normal, Refused as NormalRefused}
-use Rattle.normalizer.specs.Answer.{normalizedOf, written_by, written_of, excesses_by, excesses_of}
+use Rattle.normalizer.specs.Answer.{normalized_of, written_by, written_of, excesses_by, excesses_of}
 use Rattle.store_sets.specs.declared.Outcome.TheVariants.{New, Old}
 use Rattle.made_sets.specs.Made.{planned_set, stored_at, Made, none, after_normal, made_of}
 use Rattle.store_sets.specs.Inner.{outcome, slots_after, excesses_after, staged, told}
@@ -61,7 +61,7 @@ module _ (q : Request) (n : ℕ) where
     p = plan q n w done
 
     abbrev answer : Normalized
-    answer = normalizedOf store32 (planned_set p) n 8192
+    answer = normalized_of store32 (planned_set p) n 8192
 
     window_is : (planned_set p).layout.window_size_value ≡ w
     unfolding planned_set
@@ -87,10 +87,10 @@ module _ (q : Request) (n : ℕ) where
 
     -- the outcome and the two parts, by the normaliser's answer over the lists
     module _ (part old : List ℤ) (long : n ≡ length part) (all : length old ≡ 8192) (set : Set Float) (same : set ≡ planned_set p) where
-      answer_is : normalizedOf store32 set (length part) (length old) ≡ answer
+      answer_is : normalized_of store32 set (length part) (length old) ≡ answer
       answer_is = rw (same, sym long, all)
 
-      pub make_answer : (y : Normalized) → y ≡ normalizedOf store32 set (length part) (length old) → told w y ≡ outcome (made_of q n)
+      pub make_answer : (y : Normalized) → y ≡ normalized_of store32 set (length part) (length old) → told w y ≡ outcome (made_of q n)
       make_answer y e = told_is y ∙ ap (λ (z : Normalized). outcome (after_normal (planned_set p) z)) (e ∙ answer_is) ∙ ap outcome (sym (made_done q n w done))
 
       pub make_slots : written_of store32 set (length old) part ≡ slots_after (made_of q n) part

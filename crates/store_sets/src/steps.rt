@@ -3,7 +3,7 @@ ghost use Rattle.std.specs.Prelude.{◌≡◌, ◌*◌, ◌≤◌, length, take}
 ghost use Rattle.windows.specs.Set.{layout_of, set_of};
 ghost use Rattle.windows.specs.Store.{store32};
 ghost use Rattle.coefficients.specs.Request.{built_of, weights_of, starts_of, sizes_of};
-ghost use Rattle.normalizer.specs.Answer.{normalizedOf, written_of, excesses_of};
+ghost use Rattle.normalizer.specs.Answer.{normalized_of, written_of, excesses_of};
 ghost use Rattle.made_sets.specs.Lent.{side_of, lent_by};
 ghost use Rattle.store_sets.specs.Inner.{staged};
 
@@ -62,7 +62,7 @@ pub(crate) fn normal(
     requires fact_1 { n * w ≤ length doubles.now }
     requires fact_2 { n ≤ length firsts.now }
     requires fact_3 { n ≤ length counts.now }
-    ensures answer { result ≡ normalizedOf store32 (set_of (layout_of lines w (take n firsts.now) (take n counts.now)) (take (n * w) doubles.now)) (length part.old) (length excesses.old) }
+    ensures answer { result ≡ normalized_of store32 (set_of (layout_of lines w (take n firsts.now) (take n counts.now)) (take (n * w) doubles.now)) (length part.old) (length excesses.old) }
     ensures written { part.new ≡ written_of store32 (set_of (layout_of lines w (take n firsts.now) (take n counts.now)) (take (n * w) doubles.now)) (length excesses.old) part.old }
     ensures written2 { excesses.new ≡ excesses_of store32 (set_of (layout_of lines w (take n firsts.now) (take n counts.now)) (take (n * w) doubles.now)) (length part.old) excesses.old }
 {
