@@ -38,7 +38,7 @@ use Rattle.weight_precision.specs.Precision.{power, scaled, integer}
 use Rattle.weight_precision.specs.Weights.{holds, leaves}
 use Rattle.weight_slots.specs.Slots.{slot_at}
 use Rattle.normalizer.specs.Answer.{written_by, written_of, excesses_of}
-use Rattle.normalizer.specs.Left.{answerFor}
+use Rattle.normalizer.specs.Left.{answer_for}
 use Rattle.normalizer.proofs.Judged.{Ready, ready}
 use Rattle.filters.specs.declared.FilterType.TheVariants.{Box}
 use Rattle.plans.specs.declared.Request.{Request}
@@ -106,7 +106,7 @@ module _ (n P : ℕ) (some : 0 < n) (many : n ≤ 8192) (high : P ≤ 45) where
 -- ---- a Box set that the builder and the 32-bit normaliser accept
 module _ (q : Request) (lines : ℕ) (ws : List Float) (ss zs : List ℕ) (w : ℕ) (out excesses : List ℤ) (P : ℕ)
     (box-asked : q.filter ≡ Box) (built : built_of q (length ws) (length ss) (length zs) ≡ Built w)
-    (normal : answerFor store32 (built_set q lines ws ss zs w) out excesses ≡ Normal P) where
+    (normal : answer_for store32 (built_set q lines ws ss zs w) out excesses ≡ Normal P) where
   abbrev s : Set Float
   s = built_set q lines ws ss zs w
 

@@ -9,8 +9,8 @@ use Rattle.vertical.specs.Frame.{frame}
 use Rattle.vertical.specs.Passed.{number_of}
 use Rattle.vertical.specs.PassedF32.{number_of as numberOfF32}
 use Rattle.vertical.specs.U16.{value_at, passed_u16}
-use Rattle.vertical.specs.F32.{passedF32}
-use Rattle.vertical.proofs.Answers.{same-frame}
+use Rattle.vertical.specs.F32.{passed_f32}
+use Rattle.vertical.proofs.Answers.{same_frame}
 use Rattle.vertical.proofs.Columns as columns
 use Rattle.vertical_u8.specs.U8.{passed_u8, written_u8}
 use Rattle.promises.specs.ColumnCuts.{ColumnsCutU16, ColumnsCutU8, ColumnsCutF32}
@@ -27,7 +27,7 @@ range_done_u8 : (s : Stored) (samples row whole : ℕ) → passed_u8 s samples r
 unfolding passed_u8
 range_done_u8 s samples row whole done first count room fit rooms =
     let t = tests_u8 s samples row 0 row whole done in
-    rw (t.tests.size, t.tests.stored, same-frame s.set samples row 0 row whole first count room fit rooms t.tests.area, t.light)
+    rw (t.tests.size, t.tests.stored, same_frame s.set samples row 0 row whole first count room fit rooms t.tests.area, t.light)
 
 pub columns_cut_u8 : ColumnsCutU8
 unfolding written_u8
@@ -38,5 +38,5 @@ columns_cut_u8 s src row whole done first count list fit room =
 
 pub columns_cut_f32 : ColumnsCutF32
 columns_cut_f32 s src row whole done first count list fit room =
-    let cut = columns.columns_cut_f32 s src row whole (passed_done_f32 (passedF32 s src row 0 row (length whole)) done) first count list fit room in
+    let cut = columns.columns_cut_f32 s src row whole (passed_done_f32 (passed_f32 s src row 0 row (length whole)) done) first count list fit room in
     (ap numberOfF32 cut.0, cut.1)

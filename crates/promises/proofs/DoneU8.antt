@@ -5,7 +5,7 @@ use Prim.Native.Nat.{ℕ}
 use Rattle.lists.proofs.BoolLaws.{ladder}
 use Rattle.windows.specs.Set.{Stored, windows}
 use Rattle.windows.specs.Store.{store16}
-use Rattle.windows.specs.Fit.{badStored}
+use Rattle.windows.specs.Fit.{bad_stored}
 use Rattle.vertical.specs.declared.Passed.TheVariants.{Done}
 use Rattle.vertical.specs.Frame.{bad_size, bad_area}
 use Rattle.vertical.proofs.Answers.{refused, Tests}
@@ -19,7 +19,7 @@ pub tests_u8 : (s : Stored) (samples row first count room : ℕ) → passed_u8 s
 unfolding passed_u8
 tests_u8 s samples row first count room h =
     let size = ladder (bad_size s.set.layout.lines (windows s.set.layout) row) refused h in
-    let stored = ladder (badStored s store16) refused size.1 in
+    let stored = ladder (bad_stored s store16) refused size.1 in
     let area = ladder (bad_area s.set.layout.lines (windows s.set.layout) samples row first count room) refused stored.1 in
     let light = ladder (heavy_windows s) refused area.1 in
     record { tests = record { size = size.0; stored = stored.0; area = area.0 }; light = light.0 }

@@ -22,7 +22,7 @@ use Rattle.vertical.specs.Frame.{frame, output, row_of}
 use Rattle.vertical.specs.Passed.{number_of}
 use Rattle.vertical.specs.U16.{passed_u16, written_u16, value_at, keeps_flat}
 use Rattle.vertical_u8.specs.U8.{passed_u8, written_u8}
-use Rattle.vertical.proofs.Answers.{Tests, tests-u16, tests-shaped, Shaped}
+use Rattle.vertical.proofs.Answers.{Tests, tests_u16, tests_shaped, Shaped}
 use Rattle.vertical.proofs.Columns.{some_column}
 use Rattle.promises.specs.FlatFrames.{Flat, FlatRow, FlatFrame, FlatRowU8, FlatFrameU8}
 use Rattle.promises.proofs.Accepted.{passed_done}
@@ -80,10 +80,10 @@ module _ (M : ℕ) (s : Stored) (src : List ℕ) (row first count room : ℕ) (f
 -- ---- the u16 pass
 module _ (s : Stored) (samples row first count room : ℕ) (none : number_of (passed_u16 s samples row first count room) ≡ 0) where
   tests : Tests store32 s samples row first count room
-  tests = tests-u16 s samples row first count room (passed_done (passed_u16 s samples row first count room) none)
+  tests = tests_u16 s samples row first count room (passed_done (passed_u16 s samples row first count room) none)
 
   pub fits : Shaped s.set samples row first count room
-  fits = tests-shaped store32 s samples row first count room tests
+  fits = tests_shaped store32 s samples row first count room tests
 
   pub some_u16 : 1 ≤ s.precision
   some_u16 = omega (arith, stored_precise s store32 tests.stored)
@@ -106,7 +106,7 @@ module _ (s : Stored) (samples row first count room : ℕ) (none : number_of (pa
   tests_8 = tests_u8 s samples row first count room (passed_done (passed_u8 s samples row first count room) none)
 
   pub fits_u8 : Shaped s.set samples row first count room
-  fits_u8 = tests-shaped store16 s samples row first count room tests_8.tests
+  fits_u8 = tests_shaped store16 s samples row first count room tests_8.tests
 
   pub some_u8 : 1 ≤ s.precision
   some_u8 = omega (arith, stored_precise s store16 tests_8.tests.stored)

@@ -16,7 +16,7 @@ use Rattle.windows.specs.Set.{Set, windows}
 use Rattle.vertical.specs.declared.PassedF32.TheVariants.{Done, Refused}
 use Rattle.vertical.specs.Frame.{frame, output, bad_size, bad_shape}
 use Rattle.vertical.specs.PassedF32.{infinite_in}
-use Rattle.vertical.specs.F32.{value_f32, infinities, bad_weights, badSamples, passedF32}
+use Rattle.vertical.specs.F32.{value_f32, infinities, bad_weights, bad_samples, passed_f32}
 use Rattle.vertical.proofs.Columns.{some_column}
 use Rattle.vertical.proofs.F32Infinite.{infinities_none}
 use Rattle.vertical.proofs.F32Counts.{counted, counts_add_up}
@@ -52,10 +52,10 @@ by_case false false false true n e = refl
 by_case false false false false n e = e
 
 pub infinite_counts : InfiniteCounts
-unfolding passedF32
+unfolding passed_f32
 infinite_counts = record {
   least = at_the_limit;
-  of_the_output = λ s src row first count out done. counted s src row first count out (passed_done_f32 (passedF32 s src row first count (length out)) done);
-  add_up = λ s src row whole done. counts_add_up s src row whole (passed_done_f32 (passedF32 s src row 0 row (length whole)) done);
-  none = λ s src row first count room small. by_case (bad_size s.layout.lines (windows s.layout) row) (bad_shape s.layout (length s.weights) (length src) row first count room) (bad_weights s) (badSamples s src row first count) (infinities (output (value_f32 s (frame nan src row)) (windows s.layout) first count)) (none_out s src row first count small);
+  of_the_output = λ s src row first count out done. counted s src row first count out (passed_done_f32 (passed_f32 s src row first count (length out)) done);
+  add_up = λ s src row whole done. counts_add_up s src row whole (passed_done_f32 (passed_f32 s src row 0 row (length whole)) done);
+  none = λ s src row first count room small. by_case (bad_size s.layout.lines (windows s.layout) row) (bad_shape s.layout (length s.weights) (length src) row first count room) (bad_weights s) (bad_samples s src row first count) (infinities (output (value_f32 s (frame nan src row)) (windows s.layout) first count)) (none_out s src row first count small);
 }

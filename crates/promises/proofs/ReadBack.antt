@@ -17,11 +17,11 @@ use Rattle.text.specs.Text.{over}
 use Rattle.windows.specs.declared.Store.{Store}
 use Rattle.windows.specs.Set.{Stored, windows}
 use Rattle.windows.specs.Store.{store32, largest_precision, bad_precision}
-use Rattle.windows.specs.Fit.{badSet, badExcesses, badStored}
+use Rattle.windows.specs.Fit.{bad_set, bad_excesses, bad_stored}
 use Rattle.vertical.specs.declared.Passed.TheVariants as passed
 use Rattle.vertical.specs.Passed.{number_of as numberOfPassed}
 use Rattle.vertical.specs.U16.{passed_u16}
-use Rattle.vertical.proofs.Answers.{tests-u16}
+use Rattle.vertical.proofs.Answers.{tests_u16}
 use Rattle.sheet.specs.declared.Sheet.TheVariants as sheet
 use Rattle.sheet.specs.Answer.{no_room, by_case, answer_of, written_of, number_of as numberOfSheet}
 use Rattle.sheet.specs.Text.{sheet_text_value}
@@ -42,14 +42,14 @@ enough : (v : Sizes) (room : Room) → v.windows * v.window_size ≤ room.slots 
 enough v room a b c d = rw (le-ltb room.slots (v.windows * v.window_size) a, le-ltb room.starts v.windows b, le-ltb room.sizes v.windows c, le-ltb room.excesses v.windows d)
 
 -- a set that one store's judge takes, with a precision of the other's
-other_store : (s : Stored) (a b : Store) → badStored s a ≡ false → bad_precision b s.precision ≡ false → badStored s b ≡ false
+other_store : (s : Stored) (a b : Store) → bad_stored s a ≡ false → bad_precision b s.precision ≡ false → bad_stored s b ≡ false
 other_store s a b h precision =
-    let set = badSet s.set.layout (length s.set.weights) in
+    let set = bad_set s.set.layout (length s.set.weights) in
     let shape = set || bad_precision a s.precision in
-    rw (or_left set (bad_precision a s.precision) (or_left shape (badExcesses s) h), precision) (or_right shape (badExcesses s) h)
+    rw (or_left set (bad_precision a s.precision) (or_left shape (bad_excesses s) h), precision) (or_right shape (bad_excesses s) h)
 
 -- a pass whose tests all fail
-passes : (s : Stored) (row first count : ℕ) → bad_sides_value s.set.layout.lines (windows s.set.layout) ≡ false → badStored s store32 ≡ false → 1 ≤ row → row ≤ 32768 → first + count ≤ row → passed_u16 s (s.set.layout.lines * row) row first count (windows s.set.layout * count) ≡ passed.Done
+passes : (s : Stored) (row first count : ℕ) → bad_sides_value s.set.layout.lines (windows s.set.layout) ≡ false → bad_stored s store32 ≡ false → 1 ≤ row → row ≤ 32768 → first + count ≤ row → passed_u16 s (s.set.layout.lines * row) row first count (windows s.set.layout * count) ≡ passed.Done
 unfolding passed_u16
 passes s row first count sides stored some few inside =
     let l = s.set.layout in
@@ -129,7 +129,7 @@ module _ (wide : Bool) where
   pass_takes bits s = (
     λ a row first count some few inside. ap numberOfPassed (passes s row first count a.sides (other_store s (store_named_value bits) store32 a.fits (precise_32 bits s a)) some few inside),
     λ samples row first count room done taken precision inside.
-        let t = tests-u16 s samples row first count room (passed_done (passed_u16 s samples row first count room) done) in
+        let t = tests_u16 s samples row first count room (passed_done (passed_u16 s samples row first count room) done) in
         let l = s.set.layout in
         record {
           taken = taken;

@@ -24,7 +24,7 @@ use Rattle.crop_box.specs.declared.Cropped.TheVariants.{Inside, Refused as CropR
 use Rattle.crop_box.specs.Crop.{not_finite_value, negative_extent_value, start_outside_value, end_outside_value, crop_of}
 use Rattle.windows.specs.declared.Store.{Store}
 use Rattle.windows.specs.Set.{Set, windows}
-use Rattle.windows.specs.Fit.{badStored}
+use Rattle.windows.specs.Fit.{bad_stored}
 use Rattle.plans.specs.declared.Edge.{Edge}
 use Rattle.plans.specs.declared.Request.{Request}
 use Rattle.plans.specs.declared.Plan.{Plan}
@@ -37,7 +37,7 @@ use Rattle.plans.specs.Plan.{bad_output, no_scale, edge_of, plan_for, scaled, af
 use Rattle.coefficients.specs.Request.{too_few_slots, judged, kept, built as builtBy}
 use Rattle.normalizer.specs.declared.Normalized.{Normalized}
 use Rattle.normalizer.specs.declared.Normalized.TheVariants as normalized
-use Rattle.normalizer.specs.Answer.{normalizedOf, written_by, excesses_by, written_of, excesses_of, number_of as numberOfNormalized}
+use Rattle.normalizer.specs.Answer.{normalized_of, written_by, excesses_by, written_of, excesses_of, number_of as numberOfNormalized}
 use Rattle.vertical.specs.declared.Passed.{Passed}
 use Rattle.vertical.specs.declared.Passed.TheVariants as passed
 use Rattle.vertical.specs.Passed.{after, number_of as numberOfPassed}
@@ -46,7 +46,7 @@ use Rattle.vertical.specs.declared.PassedF32.{PassedF32}
 use Rattle.vertical.specs.declared.PassedF32.TheVariants as passed-f32
 use Rattle.vertical.specs.PassedF32.{after as after-f32, number_of as numberOfPassedF32}
 use Rattle.vertical.specs.U16.{passed_u16, written_u16}
-use Rattle.vertical.specs.F32.{passedF32, writtenF32}
+use Rattle.vertical.specs.F32.{passed_f32, written_f32}
 use Rattle.vertical_u8.specs.U8.{passed_u8, written_u8}
 use Rattle.repairs.proofs.Taken.{untouched}
 use Rattle.repairs.proofs.Own.{unwritten}
@@ -164,7 +164,7 @@ story_kept false false false false true n written old n0 = refl
 story_kept false false false false false n written old n0 = absurd (n0 refl)
 
 pub refused_unchanged : RefusedUnchanged
-unfolding written_of excesses_of written_u16 written_u8 written_sideways writtenF32 multiplied_list divided_list multipliedList16 dividedList16 by_case storyByCase
+unfolding written_of excesses_of written_u16 written_u8 written_sideways written_f32 multiplied_list divided_list multipliedList16 dividedList16 by_case storyByCase
 refused_unchanged = record {
   build = λ q ws ss zs n0 n8. (
     kept_as ws (λ p. weights_in p ws) (length ws) (length ss) (length zs) (plan_of q) n0 n8,
@@ -172,18 +172,18 @@ refused_unchanged = record {
     kept_as zs (λ p. sizes_in p zs) (length ws) (length ss) (length zs) (plan_of q) n0 n8,
   );
   build_8 = λ q ws ss zs h. zeroed_at q ws ss zs (plan_of q) refl (plan_not_8 q) h;
-  normalize = λ store s out excesses n0. normalized_kept store s (normalizedOf store s (length out) (length excesses)) out excesses n0;
+  normalize = λ store s out excesses n0. normalized_kept store s (normalized_of store s (length out) (length excesses)) out excesses n0;
   pass_u16 = λ s src row first count out n0. passed_kept (passed_u16 s (length src) row first count (length out)) _ out n0;
   pass_u8 = λ s src row first count out n0. passed_kept (passed_u8 s (length src) row first count (length out)) _ out n0;
   pass_sideways = λ s src components rows row first count out n0. passed_kept (passed_sideways s (length src) components rows row first count (length out)) _ out n0;
-  pass_f32 = λ s src row first count out n0. passed_kept_f32 (passedF32 s src row first count (length out)) _ out n0;
+  pass_f32 = λ s src row first count out n0. passed_kept_f32 (passed_f32 s src row first count (length out)) _ out n0;
   multiply = λ src out n0. applied_kept (bad_lists_value (length src) (length out)) _ out n0;
   divide = λ src out n0. applied_kept (bad_lists_value (length src) (length out)) _ out n0;
   multiply_u16 = λ src out n0. applied_kept (bad_lists_value (length src) (length out)) _ out n0;
   divide_u16 = λ src out n0. applied_kept (bad_lists_value (length src) (length out)) _ out n0;
-  sheet = λ kind store s out n0. sheet_kept (bad_sides_value s.set.layout.lines (windows s.set.layout)) (badStored s store) (no_room (length out) (length (sheet_text_value kind store s))) (length (sheet_text_value kind store s)) _ out n0;
+  sheet = λ kind store s out n0. sheet_kept (bad_sides_value s.set.layout.lines (windows s.set.layout)) (bad_stored s store) (no_room (length out) (length (sheet_text_value kind store s))) (length (sheet_text_value kind store s)) _ out n0;
   accept = untouched;
   offer = unwritten;
-  story = λ s src row i j out n0. story_kept (bad_size s.set.layout.lines (windows s.set.layout) row) (badStored s store32) (bad_frame (length src) s.set.layout.lines row) (bad_place (windows s.set.layout) row i j) (no_room (length out) (length (text_of s src row i j))) (length (text_of s src row i j)) _ out n0;
+  story = λ s src row i j out n0. story_kept (bad_size s.set.layout.lines (windows s.set.layout) row) (bad_stored s store32) (bad_frame (length src) s.set.layout.lines row) (bad_place (windows s.set.layout) row i j) (no_room (length out) (length (text_of s src row i j))) (length (text_of s src row i j)) _ out n0;
   report = λ r out n0. sheet_kept false false (no_room (length out) (length (report_text r))) (length (report_text r)) _ out n0;
 }

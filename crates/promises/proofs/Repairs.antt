@@ -13,7 +13,7 @@ use Rattle.lists.proofs.BoolLaws.{or_left, or_right}
 use Rattle.windows.specs.declared.Store.{Store}
 use Rattle.windows.specs.Set.{Stored, windows, excess, distance_of, excess_of}
 use Rattle.windows.specs.Store.{store16, store32, bad_precision}
-use Rattle.windows.specs.Fit.{badSet, badExcesses, badStored}
+use Rattle.windows.specs.Fit.{bad_set, bad_excesses, bad_stored}
 use Rattle.vertical.specs.U16.{passed_u16, keeps_flat}
 use Rattle.repairs.specs.Left.{left_set}
 use Rattle.repairs.proofs.Rows.{accepted_exactly}
@@ -56,15 +56,15 @@ pub same_fit : SameFit
 same_fit store s o accepted other =
     let sides = bad_sides_value s.set.layout.lines (windows s.set.layout) in
     let before = ((accepted_exactly store s o 0).0 accepted).1.0 in
-    let after = or_right sides (badStored (left_set store s o) store) (left_fits store s o accepted) in
+    let after = or_right sides (bad_stored (left_set store s o) store) (left_fits store s o accepted) in
     let left = left_set store s o in
-    let shape-before = or_left (badSet s.set.layout (length s.set.weights) || bad_precision store s.precision) (badExcesses s) before in
-    let shape-after = or_left (badSet s.set.layout (length left.set.weights) || bad_precision store s.precision) (badExcesses left) after in
-    both_failed (badSet s.set.layout (length left.set.weights)) (badSet s.set.layout (length s.set.weights)) (badExcesses left) (badExcesses s) (bad_precision other s.precision)
-    (or_left (badSet s.set.layout (length left.set.weights)) (bad_precision store s.precision) shape-after)
-    (or_left (badSet s.set.layout (length s.set.weights)) (bad_precision store s.precision) shape-before)
-    (or_right (badSet s.set.layout (length left.set.weights) || bad_precision store s.precision) (badExcesses left) after)
-    (or_right (badSet s.set.layout (length s.set.weights) || bad_precision store s.precision) (badExcesses s) before)
+    let shape-before = or_left (bad_set s.set.layout (length s.set.weights) || bad_precision store s.precision) (bad_excesses s) before in
+    let shape-after = or_left (bad_set s.set.layout (length left.set.weights) || bad_precision store s.precision) (bad_excesses left) after in
+    both_failed (bad_set s.set.layout (length left.set.weights)) (bad_set s.set.layout (length s.set.weights)) (bad_excesses left) (bad_excesses s) (bad_precision other s.precision)
+    (or_left (bad_set s.set.layout (length left.set.weights)) (bad_precision store s.precision) shape-after)
+    (or_left (bad_set s.set.layout (length s.set.weights)) (bad_precision store s.precision) shape-before)
+    (or_right (bad_set s.set.layout (length left.set.weights) || bad_precision store s.precision) (bad_excesses left) after)
+    (or_right (bad_set s.set.layout (length s.set.weights) || bad_precision store s.precision) (bad_excesses s) before)
 
 pub same_refusals : SameRefusals
 unfolding passed_u16

@@ -12,7 +12,7 @@ use Rattle.coefficients.specs.Answer.{number_of as numberOfBuilt, window_of}
 use Rattle.coefficients.specs.Request.{built_of, weights_of, starts_of, sizes_of}
 use Rattle.normalizer.specs.declared.Normalized.{Normalized}
 use Rattle.normalizer.specs.Answer.{number_of as numberOfNormalized}
-use Rattle.normalizer.specs.Left.{answerFor, left_set}
+use Rattle.normalizer.specs.Left.{answer_for, left_set}
 use Rattle.vertical.specs.Passed.{number_of}
 use Rattle.vertical.specs.U16.{passed_u16, written_u16}
 use Rattle.promises.specs.FlatFrames.{NearOne, Flat}
@@ -33,7 +33,7 @@ module _ (q : Request) (lines : ℕ) (ws : List Float) (ss zs : List ℕ) (out e
   fresh = built_set q lines ws ss zs (window_of built)
 
   abbrev pub normal : Normalized
-  normal = answerFor store32 fresh out excesses
+  normal = answer_for store32 fresh out excesses
 
   -- Box was asked for, and both answered 0
   abbrev pub Accepted : Type 0

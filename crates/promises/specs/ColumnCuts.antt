@@ -9,7 +9,7 @@ use Rattle.vertical.specs.declared.Passed.{Passed}
 use Rattle.vertical.specs.Passed.{number_of}
 use Rattle.vertical.specs.PassedF32.{number_of as numberOfF32}
 use Rattle.vertical.specs.U16.{passed_u16, written_u16}
-use Rattle.vertical.specs.F32.{passedF32, writtenF32}
+use Rattle.vertical.specs.F32.{passed_f32, written_f32}
 use Rattle.vertical_u8.specs.U8.{passed_u8, written_u8}
 
 -- of a pass over integers: `whole` is lent to the pass over the whole row, `list` to the pass over the range
@@ -28,7 +28,7 @@ ColumnsCutU8 = ColumnsCut passed_u8 written_u8
 
 abbrev pub ColumnsCutF32 : Type 0
 ColumnsCutF32 =
-    (s : Set Float) (src : List Float) (row : ℕ) (whole : List Float) → numberOfF32 (passedF32 s src row 0 row (length whole)) ≡ 0
+    (s : Set Float) (src : List Float) (row : ℕ) (whole : List Float) → numberOfF32 (passed_f32 s src row 0 row (length whole)) ≡ 0
     → (first count : ℕ) (list : List Float) → first + count ≤ row → length list ≡ windows s.layout * count
-    → (numberOfF32 (passedF32 s src row first count (length list)) ≡ 0)
-    × (writtenF32 s src row first count list ≡ columns nan row (windows s.layout) first count (writtenF32 s src row 0 row whole))
+    → (numberOfF32 (passed_f32 s src row first count (length list)) ≡ 0)
+    × (written_f32 s src row first count list ≡ columns nan row (windows s.layout) first count (written_f32 s src row 0 row whole))

@@ -6,7 +6,7 @@ use Rattle.lists.specs.Tab.{tab}
 use Rattle.integers.specs.Sums.{sum, distance, value}
 use Rattle.windows.specs.declared.Store.{Store}
 use Rattle.windows.specs.Set.{Stored, windows}
-use Rattle.windows.specs.Fit.{badStored}
+use Rattle.windows.specs.Fit.{bad_stored}
 use Rattle.vertical.specs.Frame.{row_of}
 use Rattle.vertical.specs.declared.Passed.{Passed}
 use Rattle.vertical.specs.Passed.{number_of}
@@ -28,7 +28,7 @@ NearOneU8 s i = keeps_flat 255 s i ≡ true
 -- the premise can be read off a set whose excesses are right: the excess beside window i is K less 2^P
 abbrev pub PremiseOffExcess : Type 0
 PremiseOffExcess =
-    (M : ℕ) (store : Store) (s : Stored) → badStored s store ≡ false → (i : ℕ) → i < windows s.set.layout
+    (M : ℕ) (store : Store) (s : Stored) → bad_stored s store ≡ false → (i : ℕ) → i < windows s.set.layout
     → keeps_flat M s i ≡ ltb (2 * M * nat_abs (get_or s.excesses i (pos 0))) (2 ^ s.precision)
 
 -- every sample of the frame is v

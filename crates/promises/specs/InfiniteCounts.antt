@@ -10,7 +10,7 @@ use Rattle.lists.specs.Tab.{turns}
 use Rattle.windows.specs.Set.{Set, windows, size, weight, sample}
 use Rattle.vertical.specs.Frame.{frame}
 use Rattle.vertical.specs.PassedF32.{number_of, infinite_in}
-use Rattle.vertical.specs.F32.{infinities, passedF32, writtenF32}
+use Rattle.vertical.specs.F32.{infinities, passed_f32, written_f32}
 use Rattle.vertical.specs.F32Counts.{width_of, over_ranges}
 
 -- what `value_f32` narrows (`sum_narrowed`): from +0 in line order, sample x weight added in binary64
@@ -24,12 +24,12 @@ least_infinite = of_bits binary64 0x47ef_ffff_f000_0000
 pub record InfiniteCounts : Type 0 where
   pub least : is_infinite (narrow least_infinite) ≡ true
   pub of_the_output : (s : Set Float) (src : List Float) (row first count : ℕ) (out : List Float)
-      → number_of (passedF32 s src row first count (length out)) ≡ 0
-      → infinite_in (passedF32 s src row first count (length out)) ≡ infinities (writtenF32 s src row first count out)
+      → number_of (passed_f32 s src row first count (length out)) ≡ 0
+      → infinite_in (passed_f32 s src row first count (length out)) ≡ infinities (written_f32 s src row first count out)
   pub add_up : (s : Set Float) (src : List Float) (row : ℕ) (whole : List Float)
-      → number_of (passedF32 s src row 0 row (length whole)) ≡ 0
+      → number_of (passed_f32 s src row 0 row (length whole)) ≡ 0
       → (widths : List ℕ) → width_of widths ≡ row
-      → infinite_in (passedF32 s src row 0 row (length whole)) ≡ over_ranges (λ first count. infinite_in (passedF32 s src row first count (windows s.layout * count))) 0 widths
+      → infinite_in (passed_f32 s src row 0 row (length whole)) ≡ over_ranges (λ first count. infinite_in (passed_f32 s src row first count (windows s.layout * count))) 0 widths
   pub none : (s : Set Float) (src : List Float) (row first count room : ℕ)
       → ((i j : ℕ) → i < windows s.layout → j < count → lt (abs (sum_f32 s (frame nan src row) i (first + j))) least_infinite ≡ true)
-      → infinite_in (passedF32 s src row first count room) ≡ 0
+      → infinite_in (passed_f32 s src row first count room) ≡ 0

@@ -6,7 +6,7 @@ use Rattle.windows.specs.declared.Store.{Store}
 use Rattle.windows.specs.Set.{Set}
 use Rattle.windows.specs.Fit.{unfit}
 use Rattle.normalizer.specs.Answer.{number_of}
-use Rattle.normalizer.specs.Left.{answerFor, left_set}
+use Rattle.normalizer.specs.Left.{answer_for, left_set}
 use Rattle.sheet_scan.specs.declared.Sizes.{Sizes}
 use Rattle.sheet_scan.specs.declared.StoreLines.{StoreLines}
 use Rattle.sheet_scan.specs.Language.{store_named_value}
@@ -15,7 +15,7 @@ use Rattle.reader.specs.Reading.{Lists, Reads}
 use Rattle.promises.specs.ReadBack.{held_in}
 
 abbrev pub NormalizedFits : Type 0
-NormalizedFits = (store : Store) (s : Set Float) (out excesses : List ℤ) → number_of (answerFor store s out excesses) ≡ 0 → unfit (left_set store s out excesses) store ≡ false
+NormalizedFits = (store : Store) (s : Set Float) (out excesses : List ℤ) → number_of (answer_for store s out excesses) ≡ 0 → unfit (left_set store s out excesses) store ≡ false
 
 abbrev pub ReadFits : Bool → Type 0
 ReadFits wide =

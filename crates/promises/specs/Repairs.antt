@@ -6,7 +6,7 @@ use Rattle.lists.specs.Tab.{tab}
 use Rattle.windows.specs.declared.Store.{Store}
 use Rattle.windows.specs.Set.{Stored, windows}
 use Rattle.windows.specs.Store.{store16}
-use Rattle.windows.specs.Fit.{badStored}
+use Rattle.windows.specs.Fit.{bad_stored}
 use Rattle.vertical.specs.declared.Passed.{Passed}
 use Rattle.vertical.specs.Passed.{number_of}
 use Rattle.vertical.specs.U16.{passed_u16, written_u16}
@@ -44,7 +44,7 @@ FlatRepairedU8 = FlatRepairedOf store16 255 passed_u8 written_u8
 -- the repaired set fits where the stored one did; so the u16 pass refuses with it what it refused before, for the same reason. (The u8 pass may refuse a repaired window with
 -- No. 9, since weights that grew by 1 can pass its 2^31 - 1)
 abbrev pub SameFit : Type 0
-SameFit = (store : Store) (s : Stored) (o : Offer) → acceptedNumber (accepted_of store s o) ≡ 0 → (other : Store) → badStored (left_set store s o) other ≡ badStored s other
+SameFit = (store : Store) (s : Stored) (o : Offer) → acceptedNumber (accepted_of store s o) ≡ 0 → (other : Store) → bad_stored (left_set store s o) other ≡ bad_stored s other
 
 abbrev pub SameRefusals : Type 0
 SameRefusals =

@@ -38,7 +38,7 @@ use Rattle.weight_slots.specs.Slots.{slot_at}
 use Rattle.normalizer.specs.declared.Normalized.{Normalized}
 use Rattle.normalizer.specs.declared.Normalized.TheVariants.{Done as Normal}
 use Rattle.normalizer.specs.Answer.{written_by, written_of, precision_in}
-use Rattle.normalizer.specs.Left.{answerFor, left_set}
+use Rattle.normalizer.specs.Left.{answer_for, left_set}
 use Rattle.normalizer.proofs.Judged.{Ready, ready}
 use Rattle.orders.specs.Negative.{negative}
 use Rattle.promises.specs.BoxKeepsFlat.{built, fresh}
@@ -95,7 +95,7 @@ integer_clear : (store : Store) (p : ℕ) (w : Float) → Clear w → negative (
 unfolding integer scaled
 integer_clear store p w h = cast_clear store.limit (round_away binary64 (w times power p)) (whole_clear away binary64 (w times power p) (mul_clear binary64 w (power p) h (int_clear (2 ^ p))))
 
-module _ (store : Store) (s : Set Float) (out excesses : List ℤ) (p : ℕ) (normal : answerFor store s out excesses ≡ Normal p)
+module _ (store : Store) (s : Set Float) (out excesses : List ℤ) (p : ℕ) (normal : answer_for store s out excesses ≡ Normal p)
     (clear : (x : ℕ) → x < length s.weights → Clear (get_or s.weights x nan)) where
   abbrev wide : ℕ
   wide = s.layout.window_size_value
@@ -130,7 +130,7 @@ pub never_negative : NeverNegative
 never_negative store q lines ws ss zs out excesses ok =
     let w = window_of (built q lines ws ss zs out excesses) in
     let s = fresh q lines ws ss zs out excesses in
-    let answer = answerFor store s out excesses in
+    let answer = answer_for store s out excesses in
     none_negative store s out excesses (precision_in answer) (normalized_done answer ok.2)
     (built_clear q ws ss zs w ok.0 (built_done (built q lines ws ss zs out excesses) ok.1))
 

@@ -39,14 +39,14 @@ module _ (M : ℕ) (passed : Stored → ℕ → ℕ → ℕ → ℕ → ℕ → 
     abbrev n : ℕ
     n = windows s.set.layout
 
-    abbrev atA : ℕ → ℕ → ℕ
-    atA = value_at M s (frame 0 a row)
+    abbrev at_a : ℕ → ℕ → ℕ
+    at_a = value_at M s (frame 0 a row)
 
     abbrev at_b : ℕ → ℕ → ℕ
     at_b = value_at M s (frame 0 b row)
 
     -- window i at the j-th column of the range
-    here : (i j : ℕ) → i < n → j < count → NoneNegative s i → atA i (first + j) ≤ at_b i (first + j)
+    here : (i j : ℕ) → i < n → j < count → NoneNegative s i → at_a i (first + j) ≤ at_b i (first + j)
     here i j hi hj none =
         window_not_darker M s (frame 0 a row) (frame 0 b row) i (first + j) none
         (λ k l.
@@ -56,18 +56,18 @@ module _ (M : ℕ) (passed : Stored → ℕ → ℕ → ℕ → ℕ → ℕ → 
     rows : (i : ℕ) → i < n → NoneNegative s i → NowhereDarker (row_of count i (written s a row first count old)) (row_of count i (written s b row first count old₂))
     rows i hi none =
         rw (
-          ap (row_of count i) (pass.out_is s a row first count old done) ∙ row_of_output atA n first count i hi,
+          ap (row_of count i) (pass.out_is s a row first count old done) ∙ row_of_output at_a n first count i hi,
           ap (row_of count i) (pass.out_is s b row first count old₂ too) ∙ row_of_output at_b n first count i hi,
         )
         (λ x l.
-        let h : x < count = lt_of_lt_of_le l (le_of_eq (length_tab 0 count (λ j. atA i (first + j)))) in
-        rw (get_d_tab 0 count (λ j. atA i (first + j)) x 0 h, get_d_tab 0 count (λ j. at_b i (first + j)) x 0 h, zero-add) (here i x hi h none))
+        let h : x < count = lt_of_lt_of_le l (le_of_eq (length_tab 0 count (λ j. at_a i (first + j)))) in
+        rw (get_d_tab 0 count (λ j. at_a i (first + j)) x 0 h, get_d_tab 0 count (λ j. at_b i (first + j)) x 0 h, zero-add) (here i x hi h none))
 
     frames : ((i : ℕ) → i < n → NoneNegative s i) → NowhereDarker (written s a row first count old) (written s b row first count old₂)
     frames none =
         rw (pass.out_is s a row first count old done, pass.out_is s b row first count old₂ too)
         (λ x l.
-        let cell_a : ℕ → ℕ → ℕ = λ i j. atA i (first + j) in
+        let cell_a : ℕ → ℕ → ℕ = λ i j. at_a i (first + j) in
         let cellB : ℕ → ℕ → ℕ = λ i j. at_b i (first + j) in
         let h : x < n * count = lt_of_lt_of_le l (le_of_eq (length_tab 0 (n * count) (grid count cell_a))) in
         let some = some_column n count x h in

@@ -23,7 +23,7 @@ use Rattle.line_weights.specs.Weights.{line_weight_value, lead_of, total_of, siz
 use Rattle.plan_windows.specs.Lines.{lead, held, total, size, slot, first_blank, or_zero}
 use Rattle.coefficients.specs.Request.{judged}
 use Rattle.weight_precision.specs.Precision.{largest, scaled, precision, integer}
-use Rattle.normalizer.specs.Answer.{normalizedOf, written_by, excesses_by, written_of, excesses_of}
+use Rattle.normalizer.specs.Answer.{normalized_of, written_by, excesses_by, written_of, excesses_of}
 use Rattle.vertical.specs.U16.{passed_u16, written_u16}
 use Rattle.row_u8.specs.Sizes.{sizes_total_value}
 use Rattle.vertical_u8.specs.U8.{passed_u8, written_u8}
@@ -32,7 +32,7 @@ use Rattle.ringing.specs.Rings.{made_in, sheet32, sheet16, dark, flat, spot, Rin
 
 -- ---- from the request to the set
 made : (made_in store32 ≡ sheet32) × (made_in store16 ≡ sheet16)
-unfolding front start stop window whole abs add sub mul div sum round neg lt le eq of_int of_bits to_unsigned to_signed crop_of support_of catmull_rom_of value_of line_weight_value lead_of total_of size_of centre lead held total size slot first_blank or_zero edge_of scale_of filter_scale_of radius_of planned after_crop plan_of plan_with_value judged largest scaled precision integer normalizedOf written_by excesses_by written_of excesses_of excess sum_of
+unfolding front start stop window whole abs add sub mul div sum round neg lt le eq of_int of_bits to_unsigned to_signed crop_of support_of catmull_rom_of value_of line_weight_value lead_of total_of size_of centre lead held total size slot first_blank or_zero edge_of scale_of filter_scale_of radius_of planned after_crop plan_of plan_with_value judged largest scaled precision integer normalized_of written_by excesses_by written_of excesses_of excess sum_of
 made = (refl, refl)
 
 -- ---- from the set to the display lines

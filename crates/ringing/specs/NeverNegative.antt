@@ -9,7 +9,7 @@ use Rattle.windows.specs.Store.{store16, store32}
 use Rattle.plans.specs.declared.Request.{Request}
 use Rattle.coefficients.specs.Answer.{number_of as numberOfBuilt}
 use Rattle.normalizer.specs.Answer.{number_of as numberOfNormalized}
-use Rattle.normalizer.specs.Left.{answerFor, left_set}
+use Rattle.normalizer.specs.Left.{answer_for, left_set}
 use Rattle.vertical.specs.declared.Passed.{Passed}
 use Rattle.vertical.specs.Passed.{number_of}
 use Rattle.vertical.specs.U16.{passed_u16, written_u16}
@@ -23,7 +23,7 @@ module _ (store : Store) (q : Request) (lines : ℕ) (ws : List Float) (ss zs : 
   abbrev pub Accepted : Type 0
   Accepted =
       ((q.filter ≡ Box) ⊎ (q.filter ≡ Bilinear)) × (numberOfBuilt (built q lines ws ss zs out excesses) ≡ 0)
-      × (numberOfNormalized (answerFor store (fresh q lines ws ss zs out excesses) out excesses) ≡ 0)
+      × (numberOfNormalized (answer_for store (fresh q lines ws ss zs out excesses) out excesses) ≡ 0)
 
   -- what they leave
   abbrev pub stored : Stored

@@ -18,11 +18,11 @@ use Rattle.excesses.proofs.StoredLaws.{stored_precise}
 use Rattle.vertical.specs.declared.Passed.TheVariants.{Done}
 use Rattle.vertical.specs.Frame.{frame}
 use Rattle.vertical.specs.U16.{value_at}
-use Rattle.vertical.proofs.Answers.{Shaped, Tests, tests-u16, tests-shaped}
+use Rattle.vertical.proofs.Answers.{Shaped, Tests, tests_u16, tests_shaped}
 use Rattle.vertical.proofs.Columns.{some_column}
 use Rattle.sideways.specs.Exchange.{turned, side_output}
 use Rattle.sideways.specs.Sideways.{passed_sideways, written_sideways}
-use Rattle.sideways.proofs.Answers.{Pixels, pixels-fit, DoneSideways, done-sideways}
+use Rattle.sideways.proofs.Answers.{Pixels, pixels_fit, DoneSideways, done_sideways}
 use Rattle.sideways.proofs.ExchangeLaws.{side_place}
 use Rattle.sideways.proofs.FrameLaws.{frame_ext}
 use Rattle.promises.proofs.Accepted.{passed_done}
@@ -36,19 +36,19 @@ module _ (s : Stored) (samples components rows row first count room : ℕ) (take
   accepted = passed_done (passed_sideways s samples components rows row first count room) taken.done
 
   both : DoneSideways s samples components rows row first count room
-  both = done-sideways s samples components rows row first count room accepted
+  both = done_sideways s samples components rows row first count room accepted
 
   pixels : Pixels components row
-  pixels = pixels-fit components row both.pixels
+  pixels = pixels_fit components row both.pixels
 
   some : 0 < components
   some = omega (arith, pixels.few)
 
   tests : Tests store32 s samples (rows * components) (first * components) (count * components) room
-  tests = tests-u16 s samples (rows * components) (first * components) (count * components) room both.vertical
+  tests = tests_u16 s samples (rows * components) (first * components) (count * components) room both.vertical
 
   fits : Shaped s.set samples (rows * components) (first * components) (count * components) room
-  fits = tests-shaped store32 s samples (rows * components) (first * components) (count * components) room tests
+  fits = tests_shaped store32 s samples (rows * components) (first * components) (count * components) room tests
 
   precise : 1 ≤ s.precision
   precise = omega (arith, stored_precise s store32 tests.stored)

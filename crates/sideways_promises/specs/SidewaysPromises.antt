@@ -16,8 +16,8 @@ module _ (s : Stored) (src : List ℕ) (components row y k i : ℕ) where
   abbrev pub along : ℕ → ℕ
   along x = frame 0 src row y ((start s.set.layout i + x) * components + k)
 
-  abbrev pub roundedAlong : ℤ
-  roundedAlong = rounded s.precision (weight s.set (pos 0) i) along (size s.set.layout i)
+  abbrev pub rounded_along : ℤ
+  rounded_along = rounded s.precision (weight s.set (pos 0) i) along (size s.set.layout i)
 
 -- a call that is not refused, with a set over the pixels of a row
 pub record Taken (s : Stored) (samples components rows row first count room : ℕ) : Type 0 where
@@ -38,28 +38,28 @@ abbrev pub ValueAlong : Type 0
 ValueAlong =
     (s : Stored) (src : List ℕ) (components rows row first count : ℕ) (old : List ℕ) → Taken s (length src) components rows row first count (length old)
     → (y k i : ℕ) → Place s components count y k i
-    → placed s components (written_sideways s src components rows row first count old) y k i ≡ clipped 65535 (roundedAlong s src components row (first + y) k i)
+    → placed s components (written_sideways s src components rows row first count old) y k i ≡ clipped 65535 (rounded_along s src components row (first + y) k i)
 
 -- the frame c is a and b added
 abbrev pub SumsSideways : Type 0
 SumsSideways =
     (s : Stored) (a b c : List ℕ) (components rows row first count room : ℕ) → Taken s (length c) components rows row first count room → Added a b c
     → (y k i : ℕ) → Place s components count y k i
-    → distance (roundedAlong s c components row (first + y) k i) (roundedAlong s a components row (first + y) k i +ℤ roundedAlong s b components row (first + y) k i) ≤ 1
+    → distance (rounded_along s c components row (first + y) k i) (rounded_along s a components row (first + y) k i +ℤ rounded_along s b components row (first + y) k i) ≤ 1
 
 -- a flat frame: v wherever window i meets the premise, whatever the other windows do; and all of it, where every window does
 module _ (s : Stored) (src : List ℕ) (components rows row first count : ℕ) (old : List ℕ) (v : ℕ) where
   abbrev FlatCall : Type 0 → Type 0
   FlatCall claim = Taken s (length src) components rows row first count (length old) → v ≤ 65535 → Flat v src → claim
 
-  abbrev flatOut : List ℕ
-  flatOut = written_sideways s src components rows row first count old
+  abbrev flat_out : List ℕ
+  flat_out = written_sideways s src components rows row first count old
 
   abbrev pub FlatPlaceOf : Type 0
-  FlatPlaceOf = FlatCall ((y k i : ℕ) → Place s components count y k i → NearOne s i → placed s components flatOut y k i ≡ v)
+  FlatPlaceOf = FlatCall ((y k i : ℕ) → Place s components count y k i → NearOne s i → placed s components flat_out y k i ≡ v)
 
   abbrev pub FlatFrameOf : Type 0
-  FlatFrameOf = FlatCall (((i : ℕ) → i < windows s.set.layout → NearOne s i) → flatOut ≡ tab 0 (count * (windows s.set.layout * components)) (λ z. v))
+  FlatFrameOf = FlatCall (((i : ℕ) → i < windows s.set.layout → NearOne s i) → flat_out ≡ tab 0 (count * (windows s.set.layout * components)) (λ z. v))
 
 abbrev pub FlatSideways : Type 0
 FlatSideways = (s : Stored) (src : List ℕ) (components rows row first count : ℕ) (old : List ℕ) (v : ℕ) → FlatPlaceOf s src components rows row first count old v
@@ -73,17 +73,17 @@ module _ (s : Stored) (a b : List ℕ) (components rows row first count : ℕ) (
   Lighter claim =
       Taken s (length a) components rows row first count (length old) → Taken s (length b) components rows row first count (length old₂) → NowhereDarker a b → claim
 
-  abbrev outA : List ℕ
-  outA = written_sideways s a components rows row first count old
+  abbrev out_a : List ℕ
+  out_a = written_sideways s a components rows row first count old
 
-  abbrev outB : List ℕ
-  outB = written_sideways s b components rows row first count old₂
+  abbrev out_b : List ℕ
+  out_b = written_sideways s b components rows row first count old₂
 
   abbrev pub NotDarkerPlace : Type 0
-  NotDarkerPlace = Lighter ((y k i : ℕ) → Place s components count y k i → NoneNegative s i → placed s components outA y k i ≤ placed s components outB y k i)
+  NotDarkerPlace = Lighter ((y k i : ℕ) → Place s components count y k i → NoneNegative s i → placed s components out_a y k i ≤ placed s components out_b y k i)
 
   abbrev pub NotDarkerFrame : Type 0
-  NotDarkerFrame = Lighter (((i : ℕ) → i < windows s.set.layout → NoneNegative s i) → NowhereDarker outA outB)
+  NotDarkerFrame = Lighter (((i : ℕ) → i < windows s.set.layout → NoneNegative s i) → NowhereDarker out_a out_b)
 
 abbrev pub NotDarkerSideways : Type 0
 NotDarkerSideways = (s : Stored) (a b : List ℕ) (components rows row first count : ℕ) (old old₂ : List ℕ) → NotDarkerPlace s a b components rows row first count old old₂

@@ -20,7 +20,7 @@ use Rattle.windows.specs.Set.{Stored, windows, start, size, weight, sample}
 use Rattle.vertical.specs.Passed.{number_of}
 use Rattle.vertical.specs.Frame.{frame, output, bad_size, bad_area}
 use Rattle.vertical.specs.U16.{value_at, passed_u16}
-use Rattle.vertical.proofs.Answers.{tests-u16, Shaped}
+use Rattle.vertical.proofs.Answers.{tests_u16, Shaped}
 use Rattle.vertical.proofs.Columns.{some_column}
 use Rattle.vertical_u8.specs.U8.{passed_u8}
 use Rattle.promises.proofs.Accepted.{passed_done}
@@ -78,7 +78,7 @@ pub strip_u16 : StripU16
 unfolding passed_u16
 strip_u16 s src row first count list some none =
     let shaped = fits s (length src) row first count (length list) none in
-    let t = tests-u16 s (length src) row first count (length list) (passed_done (passed_u16 s (length src) row first count (length list)) none) in
+    let t = tests_u16 s (length src) row first count (length list) (passed_done (passed_u16 s (length src) row first count (length list)) none) in
     let taken : number_of (passed_u16 s (length (strip s src row first count)) count 0 count (length list)) ≡ 0 =
     rw (size_fits s src row first count (length list) some shaped t.size, t.stored, area_fits s src row first count (length list) some shaped) in
     (taken, written s (strip s src row first count) count 0 count list taken ∙ same_output s src row first count (length list) some shaped 65535 ∙ sym (written s src row first count list none))

@@ -18,10 +18,10 @@ use Rattle.vertical.specs.declared.Passed.TheVariants.{Done}
 use Rattle.vertical.specs.Frame.{frame, columns}
 use Rattle.vertical.specs.Passed.{number_of}
 use Rattle.vertical.specs.U16.{value_at, passed_u16, written_u16}
-use Rattle.vertical.proofs.Answers.{Shaped, Tests, tests-u16, tests-shaped}
+use Rattle.vertical.proofs.Answers.{Shaped, Tests, tests_u16, tests_shaped}
 use Rattle.sideways.specs.Exchange.{turned, rows_of}
 use Rattle.sideways.specs.Sideways.{passed_sideways, written_sideways}
-use Rattle.sideways.proofs.Answers.{pixels-fit, done-sideways}
+use Rattle.sideways.proofs.Answers.{pixels_fit, done_sideways}
 use Rattle.sideways.proofs.FrameLaws.{frame_at, frame_ext}
 use Rattle.promises.proofs.Accepted.{passed_done}
 use Rattle.promises.proofs.ColumnCuts.{columns_cut_u16}
@@ -52,14 +52,14 @@ module _ (across down : Stored) (src : List ℕ) (components rows row : ℕ) (be
 
   fits_across : Shaped across.set (length src) (rows * components) (0 * components) (rows * components) (length between)
   fits_across =
-      tests-shaped store32 across (length src) (rows * components) (0 * components) (rows * components) (length between)
-      (tests-u16 across (length src) (rows * components) (0 * components) (rows * components) (length between) (done-sideways across (length src) components rows row 0 rows (length between) taken).vertical)
+      tests_shaped store32 across (length src) (rows * components) (0 * components) (rows * components) (length between)
+      (tests_u16 across (length src) (rows * components) (0 * components) (rows * components) (length between) (done_sideways across (length src) components rows row 0 rows (length between) taken).vertical)
 
   fits_down : Shaped down.set (length narrowed) wide 0 wide (length whole)
-  fits_down = tests-shaped store32 down (length narrowed) wide 0 wide (length whole) (tests-u16 down (length narrowed) wide 0 wide (length whole) (passed_done (passed_u16 down (length narrowed) wide 0 wide (length whole)) done.vertical))
+  fits_down = tests_shaped store32 down (length narrowed) wide 0 wide (length whole) (tests_u16 down (length narrowed) wide 0 wide (length whole) (passed_done (passed_u16 down (length narrowed) wide 0 wide (length whole)) done.vertical))
 
   some : 1 ≤ components
-  some = omega (arith, (pixels-fit components row (done-sideways across (length src) components rows row 0 rows (length between) taken).pixels).few)
+  some = omega (arith, (pixels_fit components row (done_sideways across (length src) components rows row 0 rows (length between) taken).pixels).few)
 
   long : length narrowed ≡ rows * wide
   unfolding written_sideways

@@ -17,11 +17,11 @@ use Rattle.integers.proofs.Sums.{total_ext}
 use Rattle.windows.specs.declared.Store.{Store}
 use Rattle.windows.specs.Set.{Stored, windows, start, size, weight, sample, excess_of}
 use Rattle.windows.specs.Store.{bad_precision}
-use Rattle.windows.specs.Fit.{badAt, badSet, badExcesses, badStored, Fits}
+use Rattle.windows.specs.Fit.{bad_at, bad_set, bad_excesses, bad_stored, Fits}
 use Rattle.excesses.proofs.RightLaws.{right_count, right_excess, right_excesses, judged_excesses}
 use Rattle.excesses.proofs.SameExcess.{excess_ext}
 use Rattle.vertical.specs.U16.{value_at}
-use Rattle.vertical.proofs.Answers.{Tests, tests-shaped}
+use Rattle.vertical.proofs.Answers.{Tests, tests_shaped}
 use Rattle.window_cuts.specs.Run.{run, run_of}
 
 pub get_d_run : {A : Type 0} (a n : ℕ) (l : List A) (i : ℕ) (d : A) → i < n → get_or (run a n l) i d ≡ get_or l (a + i) d
@@ -60,7 +60,7 @@ module _ (s : Stored) (a n : ℕ) where
     pub windows_run : windows (run_of s a n).set.layout ≡ n
     windows_run = length_run a n s.set.layout.starts fit
 
-    set_run : badSet (run_of s a n).set.layout (length (run_of s a n).set.weights) ≡ false
+    set_run : bad_set (run_of s a n).set.layout (length (run_of s a n).set.weights) ≡ false
     set_run =
         let l = s.set.layout in
         let few : a + n ≤ length l.sizes = omega (arith, f.pairs) in
@@ -73,7 +73,7 @@ module _ (s : Stored) (a n : ℕ) where
           eq-eqb n n refl,
           eq-eqb (n * w) (n * w) refl,
         )
-        (none_any (badAt (run_of s a n).set.layout) n
+        (none_any (bad_at (run_of s a n).set.layout) n
         (λ i h.
         let inside : a + i < windows l = omega arith in
         rw (
@@ -83,7 +83,7 @@ module _ (s : Stored) (a n : ℕ) where
           le-ltb l.lines (start l (a + i) + size l (a + i)) (f.ends (a + i) inside),
         )))
 
-    excesses_run : badExcesses s ≡ false → badExcesses (run_of s a n) ≡ false
+    excesses_run : bad_excesses s ≡ false → bad_excesses (run_of s a n) ≡ false
     excesses_run h =
         let few : a + n ≤ length s.excesses = omega (arith, right_count s h) in
         right_excesses (run_of s a n) (length_run a n s.excesses few ∙ sym windows_run)
@@ -92,12 +92,12 @@ module _ (s : Stored) (a n : ℕ) where
         let inside : a + i < windows s.set.layout = omega arith in
         excess_run i hi (f.small (a + i) inside) ∙ right_excess s h (a + i) inside ∙ sym (get_d_run a n s.excesses i (pos 0) hi))
 
-    pub stored_run : (store : Store) → badStored s store ≡ false → badStored (run_of s a n) store ≡ false
+    pub stored_run : (store : Store) → bad_stored s store ≡ false → bad_stored (run_of s a n) store ≡ false
     stored_run store h =
-        let set = badSet s.set.layout (length s.set.weights) in
+        let set = bad_set s.set.layout (length s.set.weights) in
         rw (
           set_run,
-          or_right set (bad_precision store s.precision) (or_left (set || bad_precision store s.precision) (badExcesses s) h),
+          or_right set (bad_precision store s.precision) (or_left (set || bad_precision store s.precision) (bad_excesses s) h),
           excesses_run (judged_excesses s store h),
         )
 
@@ -106,7 +106,7 @@ module _ (store : Store) (s : Stored) (samples row first count room : ℕ) (t : 
     (fit : a + n ≤ windows s.set.layout) (rooms : room₂ ≡ n * count) where
   pub tests_run : Tests store (run_of s a n) samples row first count room₂
   tests_run =
-      let q = tests-shaped store s samples row first count room t in
+      let q = tests_shaped store s samples row first count room t in
       let f = q.set in
       record {
         size = rw (

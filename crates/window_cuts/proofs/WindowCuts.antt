@@ -11,11 +11,11 @@ use Rattle.vertical.specs.declared.Passed.TheVariants.{Done}
 use Rattle.vertical.specs.Frame.{frame, output, columns}
 use Rattle.vertical.specs.Passed.{number_of}
 use Rattle.vertical.specs.U16.{value_at, passed_u16, written_u16}
-use Rattle.vertical.proofs.Answers.{Tests, tests-u16, tests-shaped}
+use Rattle.vertical.proofs.Answers.{Tests, tests_u16, tests_shaped}
 use Rattle.promises.proofs.Accepted.{passed_done}
 use Rattle.sideways.specs.Exchange.{turned, side_output, rows_of}
 use Rattle.sideways.specs.Sideways.{passed_sideways, written_sideways}
-use Rattle.sideways.proofs.Answers.{pixels-fit, done-sideways, answer-of}
+use Rattle.sideways.proofs.Answers.{pixels_fit, done_sideways, answer_of}
 use Rattle.sideways.proofs.ExchangeLaws.{side_place}
 use Rattle.sideways.proofs.FrameLaws.{tab_cut, frame_ext, frame_shift}
 use Rattle.window_cuts.specs.Run.{run_of}
@@ -63,8 +63,8 @@ pub windows_cut_u16 : WindowsCut
 unfolding written_u16
 windows_cut_u16 s src row first count whole zero a n list some fit rooms =
     let done = passed_done (passed_u16 s (length src) row first count (length whole)) zero in
-    let t = tests-u16 s (length src) row first count (length whole) done in
-    let f = (tests-shaped store32 s (length src) row first count (length whole) t).set in
+    let t = tests_u16 s (length src) row first count (length whole) done in
+    let f = (tests_shaped store32 s (length src) row first count (length whole) t).set in
     let run-done = done_u16 (run_of s a n) (length src) row first count (length list) (tests_run store32 s (length src) row first count (length whole) t a n (length list) some fit rooms) in
     (ap number_of run-done, rw (run-done, done, windows_run s a n f fit) (output_run 65535 s (frame 0 src row) a n fit f.small first count))
 
@@ -72,12 +72,12 @@ pub windows_cut_sideways : WindowsCutSideways
 unfolding written_sideways
 windows_cut_sideways s src components rows row first count whole zero a n list some fit rooms =
     let done = passed_done (passed_sideways s (length src) components rows row first count (length whole)) zero in
-    let d = done-sideways s (length src) components rows row first count (length whole) done in
-    let t = tests-u16 s (length src) (rows * components) (first * components) (count * components) (length whole) d.vertical in
-    let f = (tests-shaped store32 s (length src) (rows * components) (first * components) (count * components) (length whole) t).set in
+    let d = done_sideways s (length src) components rows row first count (length whole) done in
+    let t = tests_u16 s (length src) (rows * components) (first * components) (count * components) (length whole) d.vertical in
+    let f = (tests_shaped store32 s (length src) (rows * components) (first * components) (count * components) (length whole) t).set in
     let run-done =
-    answer-of (run_of s a n) (length src) components rows row first count (length list) d.pixels
+    answer_of (run_of s a n) (length src) components rows row first count (length list) d.pixels
     ∙ done_u16 (run_of s a n) (length src) (rows * components) (first * components) (count * components) (length list)
     (tests_run store32 s (length src) (rows * components) (first * components) (count * components) (length whole) t a n (length list) some fit (rooms ∙ mul_left_comm count n components)) in
-    let few : 0 < components = omega (arith, (pixels-fit components row d.pixels).few) in
+    let few : 0 < components = omega (arith, (pixels_fit components row d.pixels).few) in
     (ap number_of run-done, rw (run-done, done, windows_run s a n f fit) (side_run 65535 s (turned 0 src components row) a n fit f.small components few first count))
