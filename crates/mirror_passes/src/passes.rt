@@ -3,7 +3,7 @@ ghost use Rattle.std.specs.Prelude.{◌≡◌, length};
 ghost use Rattle.windows.specs.Set.{layout_of, set_of, stored_of};
 ghost use Rattle.vertical.specs.Passed.{number_of};
 ghost use Rattle.vertical.specs.PassedF32.{number_of as numberOfF32, infinite_in};
-ghost use Rattle.vertical.specs.F32.{passedF32, writtenF32};
+ghost use Rattle.vertical.specs.F32.{passed_f32, written_f32};
 ghost use Rattle.vertical.specs.U16.{passed_u16, written_u16};
 
 use vertical::Frame;
@@ -61,9 +61,9 @@ pub extern "C" fn mirror_vertical_f32(
     out: &mut [f32],
     infinite: &mut u32,
 ) -> u32
-    ensures answer { result ≡ numberOfF32 (passedF32 (set_of (layout_of lines window starts.now sizes.now) weights.now) src.now row first count (length out.old)) }
-    ensures written { out.new ≡ writtenF32 (set_of (layout_of lines window starts.now sizes.now) weights.now) src.now row first count out.old }
-    ensures written2 { infinite.new ≡ infinite_in (passedF32 (set_of (layout_of lines window starts.now sizes.now) weights.now) src.now row first count (length out.old)) }
+    ensures answer { result ≡ numberOfF32 (passed_f32 (set_of (layout_of lines window starts.now sizes.now) weights.now) src.now row first count (length out.old)) }
+    ensures written { out.new ≡ written_f32 (set_of (layout_of lines window starts.now sizes.now) weights.now) src.now row first count out.old }
+    ensures written2 { infinite.new ≡ infinite_in (passed_f32 (set_of (layout_of lines window starts.now sizes.now) weights.now) src.now row first count (length out.old)) }
 {
     let answer = vertical_f32::vert_convolution_f32(
         src,

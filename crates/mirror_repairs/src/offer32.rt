@@ -2,7 +2,7 @@
 ghost use Rattle.std.specs.Prelude.{◌≡◌, length};
 ghost use Rattle.windows.specs.Set.{layout_of, set_of, stored_of};
 ghost use Rattle.windows.specs.Store.{store32};
-ghost use Rattle.repairs.specs.Answer.{offeredOf, written_of, offered_number, offered_line};
+ghost use Rattle.repairs.specs.Answer.{offered_of, written_of, offered_number, offered_line};
 
 // 0, and the offer is in the first slots of `out`; or No. 1, 7, 10 or 14, and nothing is changed. `line` is the first display line without an offer, 0 where the
 // answer is not 14.
@@ -18,9 +18,9 @@ pub extern "C" fn mirror_offer32(
     out: &mut [i32],
     line: &mut u32,
 ) -> u32
-    ensures answer { result ≡ offered_number (offeredOf store32 (stored_of (set_of (layout_of lines window starts.now sizes.now) weights.now) precision excesses.now) (length out.old)) }
+    ensures answer { result ≡ offered_number (offered_of store32 (stored_of (set_of (layout_of lines window starts.now sizes.now) weights.now) precision excesses.now) (length out.old)) }
     ensures written { out.new ≡ written_of store32 (stored_of (set_of (layout_of lines window starts.now sizes.now) weights.now) precision excesses.now) out.old }
-    ensures written2 { line.new ≡ offered_line (offeredOf store32 (stored_of (set_of (layout_of lines window starts.now sizes.now) weights.now) precision excesses.now) (length out.old)) }
+    ensures written2 { line.new ≡ offered_line (offered_of store32 (stored_of (set_of (layout_of lines window starts.now sizes.now) weights.now) precision excesses.now) (length out.old)) }
 {
     let answer = make_offers::make_offer32(
         lines, window, precision, weights, starts, sizes, excesses, out,

@@ -4,7 +4,7 @@ ghost use Rattle.coefficients.specs.Answer.{number_of, window_of, line_of};
 ghost use Rattle.codes.specs.Codes.{bad_code, no_codes, request_of};
 ghost use Rattle.shares.specs.Store.{store_of, view_of};
 ghost use Rattle.shares.specs.Scratch.{scratch_of};
-ghost use Rattle.shares.specs.Machine.{next, by, puts, putAnswer, scratchAfter};
+ghost use Rattle.shares.specs.Machine.{next, by, puts, put_answer, scratch_after};
 
 use codes::{axis_named, filter_named, names_nothing};
 use crop_box::CropBox;
@@ -35,17 +35,17 @@ pub extern "C" fn mirror_store_put(
     window: &mut u32,
     line: &mut u32,
 ) -> u32
-    ensures answer { result ≡ cond (no_codes axis filter adapts) bad_code (number_of (putAnswer (view_of (store_of numbers.old slots.old starts.old sizes.old excesses.old) client) (request_of image_width image_height left top width height axis out_side filter adapts) (scratch_of doubles.old firsts.old counts.old))) }
+    ensures answer { result ≡ cond (no_codes axis filter adapts) bad_code (number_of (put_answer (view_of (store_of numbers.old slots.old starts.old sizes.old excesses.old) client) (request_of image_width image_height left top width height axis out_side filter adapts) (scratch_of doubles.old firsts.old counts.old))) }
     ensures written { numbers.new ≡ cond (no_codes axis filter adapts) numbers.old (next (store_of numbers.old slots.old starts.old sizes.old excesses.old) (by client (puts (request_of image_width image_height left top width height axis out_side filter adapts) (scratch_of doubles.old firsts.old counts.old)))).numbers }
     ensures written2 { slots.new ≡ cond (no_codes axis filter adapts) slots.old (next (store_of numbers.old slots.old starts.old sizes.old excesses.old) (by client (puts (request_of image_width image_height left top width height axis out_side filter adapts) (scratch_of doubles.old firsts.old counts.old)))).slots }
     ensures written3 { starts.new ≡ cond (no_codes axis filter adapts) starts.old (next (store_of numbers.old slots.old starts.old sizes.old excesses.old) (by client (puts (request_of image_width image_height left top width height axis out_side filter adapts) (scratch_of doubles.old firsts.old counts.old)))).starts }
     ensures written4 { sizes.new ≡ cond (no_codes axis filter adapts) sizes.old (next (store_of numbers.old slots.old starts.old sizes.old excesses.old) (by client (puts (request_of image_width image_height left top width height axis out_side filter adapts) (scratch_of doubles.old firsts.old counts.old)))).sizes }
     ensures written5 { excesses.new ≡ cond (no_codes axis filter adapts) excesses.old (next (store_of numbers.old slots.old starts.old sizes.old excesses.old) (by client (puts (request_of image_width image_height left top width height axis out_side filter adapts) (scratch_of doubles.old firsts.old counts.old)))).excesses }
-    ensures written6 { doubles.new ≡ cond (no_codes axis filter adapts) doubles.old (scratchAfter (view_of (store_of numbers.old slots.old starts.old sizes.old excesses.old) client) (request_of image_width image_height left top width height axis out_side filter adapts) (scratch_of doubles.old firsts.old counts.old)).doubles }
-    ensures written7 { firsts.new ≡ cond (no_codes axis filter adapts) firsts.old (scratchAfter (view_of (store_of numbers.old slots.old starts.old sizes.old excesses.old) client) (request_of image_width image_height left top width height axis out_side filter adapts) (scratch_of doubles.old firsts.old counts.old)).firsts }
-    ensures written8 { counts.new ≡ cond (no_codes axis filter adapts) counts.old (scratchAfter (view_of (store_of numbers.old slots.old starts.old sizes.old excesses.old) client) (request_of image_width image_height left top width height axis out_side filter adapts) (scratch_of doubles.old firsts.old counts.old)).counts }
-    ensures written9 { window.new ≡ cond (no_codes axis filter adapts) 0 (window_of (putAnswer (view_of (store_of numbers.old slots.old starts.old sizes.old excesses.old) client) (request_of image_width image_height left top width height axis out_side filter adapts) (scratch_of doubles.old firsts.old counts.old))) }
-    ensures written10 { line.new ≡ cond (no_codes axis filter adapts) 0 (line_of (putAnswer (view_of (store_of numbers.old slots.old starts.old sizes.old excesses.old) client) (request_of image_width image_height left top width height axis out_side filter adapts) (scratch_of doubles.old firsts.old counts.old))) }
+    ensures written6 { doubles.new ≡ cond (no_codes axis filter adapts) doubles.old (scratch_after (view_of (store_of numbers.old slots.old starts.old sizes.old excesses.old) client) (request_of image_width image_height left top width height axis out_side filter adapts) (scratch_of doubles.old firsts.old counts.old)).doubles }
+    ensures written7 { firsts.new ≡ cond (no_codes axis filter adapts) firsts.old (scratch_after (view_of (store_of numbers.old slots.old starts.old sizes.old excesses.old) client) (request_of image_width image_height left top width height axis out_side filter adapts) (scratch_of doubles.old firsts.old counts.old)).firsts }
+    ensures written8 { counts.new ≡ cond (no_codes axis filter adapts) counts.old (scratch_after (view_of (store_of numbers.old slots.old starts.old sizes.old excesses.old) client) (request_of image_width image_height left top width height axis out_side filter adapts) (scratch_of doubles.old firsts.old counts.old)).counts }
+    ensures written9 { window.new ≡ cond (no_codes axis filter adapts) 0 (window_of (put_answer (view_of (store_of numbers.old slots.old starts.old sizes.old excesses.old) client) (request_of image_width image_height left top width height axis out_side filter adapts) (scratch_of doubles.old firsts.old counts.old))) }
+    ensures written10 { line.new ≡ cond (no_codes axis filter adapts) 0 (line_of (put_answer (view_of (store_of numbers.old slots.old starts.old sizes.old excesses.old) client) (request_of image_width image_height left top width height axis out_side filter adapts) (scratch_of doubles.old firsts.old counts.old))) }
 {
     if names_nothing(axis, filter, adapts) {
         *window = 0;

@@ -2,7 +2,7 @@
 ghost use Rattle.std.specs.Prelude.{◌≡◌, length};
 ghost use Rattle.windows.specs.Set.{layout_of, set_of};
 ghost use Rattle.windows.specs.Store.{store16, store32};
-ghost use Rattle.normalizer.specs.Answer.{normalizedOf, written_of, excesses_of, number_of, precision_in};
+ghost use Rattle.normalizer.specs.Answer.{normalized_of, written_of, excesses_of, number_of, precision_in};
 
 use crate::answers::normalized_precision;
 
@@ -18,10 +18,10 @@ pub extern "C" fn mirror_normalize16(
     excesses: &mut [i64],
     precision: &mut u32,
 ) -> u32
-    ensures answer { result ≡ number_of (normalizedOf store16 (set_of (layout_of lines window starts.now sizes.now) weights.now) (length out.old) (length excesses.old)) }
+    ensures answer { result ≡ number_of (normalized_of store16 (set_of (layout_of lines window starts.now sizes.now) weights.now) (length out.old) (length excesses.old)) }
     ensures written { out.new ≡ written_of store16 (set_of (layout_of lines window starts.now sizes.now) weights.now) (length excesses.old) out.old }
     ensures written2 { excesses.new ≡ excesses_of store16 (set_of (layout_of lines window starts.now sizes.now) weights.now) (length out.old) excesses.old }
-    ensures written3 { precision.new ≡ precision_in (normalizedOf store16 (set_of (layout_of lines window starts.now sizes.now) weights.now) (length out.old) (length excesses.old)) }
+    ensures written3 { precision.new ≡ precision_in (normalized_of store16 (set_of (layout_of lines window starts.now sizes.now) weights.now) (length out.old) (length excesses.old)) }
 {
     let answer = normalizer::normalize16(lines, window, weights, starts, sizes, out, excesses);
     *precision = normalized_precision(answer);
@@ -40,10 +40,10 @@ pub extern "C" fn mirror_normalize32(
     excesses: &mut [i64],
     precision: &mut u32,
 ) -> u32
-    ensures answer { result ≡ number_of (normalizedOf store32 (set_of (layout_of lines window starts.now sizes.now) weights.now) (length out.old) (length excesses.old)) }
+    ensures answer { result ≡ number_of (normalized_of store32 (set_of (layout_of lines window starts.now sizes.now) weights.now) (length out.old) (length excesses.old)) }
     ensures written { out.new ≡ written_of store32 (set_of (layout_of lines window starts.now sizes.now) weights.now) (length excesses.old) out.old }
     ensures written2 { excesses.new ≡ excesses_of store32 (set_of (layout_of lines window starts.now sizes.now) weights.now) (length out.old) excesses.old }
-    ensures written3 { precision.new ≡ precision_in (normalizedOf store32 (set_of (layout_of lines window starts.now sizes.now) weights.now) (length out.old) (length excesses.old)) }
+    ensures written3 { precision.new ≡ precision_in (normalized_of store32 (set_of (layout_of lines window starts.now sizes.now) weights.now) (length out.old) (length excesses.old)) }
 {
     let answer = normalizer::normalize32(lines, window, weights, starts, sizes, out, excesses);
     *precision = normalized_precision(answer);

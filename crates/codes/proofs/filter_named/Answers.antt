@@ -1,0 +1,15 @@
+-- `filter_named`: each way out is one arm of `filter_of`, by the tests that led there. Assumes nothing.
+use borrow.Author.Tests.{eq-eqb, ne_eqb}
+use Rattle.codes.proofs.filter_named.Goals as goal
+
+pub returns-then-code-eq0 : goal.returns-then-code-eq0
+returns-then-code-eq0 c = record { answer = rw (eq-eqb _ _ c.if-code-eq0.true) }
+
+pub returns-then-code-eq1 : goal.returns-then-code-eq1
+returns-then-code-eq1 c = record { answer = rw (ne_eqb _ _ c.if-code-eq0.false, eq-eqb _ _ c.if-code-eq1.true) }
+
+pub returns-then-code-eq2 : goal.returns-then-code-eq2
+returns-then-code-eq2 c = record { answer = rw (ne_eqb _ _ c.if-code-eq0.false, ne_eqb _ _ c.if-code-eq1.false, eq-eqb _ _ c.if-code-eq2.true) }
+
+pub returns : goal.returns
+returns c = record { answer = rw (ne_eqb _ _ c.if-code-eq0.false, ne_eqb _ _ c.if-code-eq1.false, ne_eqb _ _ c.if-code-eq2.false) }

@@ -1,0 +1,7 @@
+-- `mirror_divide_u16x4_inplace`: the number of the library's answer, and its list. Assumes nothing.
+use mathlib.Core.Path.{◌∙◌, ap}
+use Rattle.pixel_lists.specs.Lists.{number_of}
+use Rattle.mirror_alpha_u16.proofs.pixels.mirror_divide_u16x4_inplace.Goals as goal
+
+pub returns : goal.returns
+returns c = record { answer = c.number.ensures.answer ∙ ap number_of c.divide_alpha_inplace.ensures.answer; written = c.divide_alpha_inplace.ensures.written }
