@@ -33,14 +33,14 @@ fn row(reason: u8) -> usize {
 }
 
 // The reasons' bytes from the place a on, up to the full stop.
-fn reason_from(reasons: &[u8], a: usize, n: usize, out: &mut [u8]) -> usize {
+fn reason_from(rt: HostRuntime, reasons: &[u8], a: usize, n: usize, out: &mut [u8]) -> usize {
     let mut p = n;
     let mut i = a;
     while i < reasons.len() {
         if reasons[i] == b'.' {
             return p;
         }
-        p = emit::byte(reasons[i], p, out);
+        p = emit::byte(rt, reasons[i], p, out);
         i += 1;
     }
     p
@@ -55,9 +55,9 @@ fn place(k: usize) -> usize {
 }
 
 // The whole of it.
-pub fn bad(word: usize, reason: u8, n: usize, out: &mut [u8]) -> usize {
-    let p = emit::word(b"bad ", n, out);
-    let q = emit::number(word as u64, p, out);
-    let r = emit::byte(b' ', q, out);
-    reason_from(&REASONS, place(row(reason)), r, out)
+pub fn bad(rt: HostRuntime, word: usize, reason: u8, n: usize, out: &mut [u8]) -> usize {
+    let p = emit::word(rt, b"bad ", n, out);
+    let q = emit::number(rt, word as u64, p, out);
+    let r = emit::byte(rt, b' ', q, out);
+    reason_from(rt, &REASONS, place(row(reason)), r, out)
 }

@@ -19,10 +19,10 @@ pub fn told(n: usize) -> Said {
 }
 
 // The line's end; what no group knows is no request.
-pub fn closed(s: Said, out: &mut [u8]) -> usize {
+pub fn closed(rt: HostRuntime, s: Said, out: &mut [u8]) -> usize {
     if s.done {
-        return emit::byte(b'\n', s.n, out);
+        return emit::byte(rt, b'\n', s.n, out);
     }
-    let p = fault::bad(1, b'?', s.n, out);
-    emit::byte(b'\n', p, out)
+    let p = fault::bad(rt, 1, b'?', s.n, out);
+    emit::byte(rt, b'\n', p, out)
 }

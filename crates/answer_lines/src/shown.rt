@@ -60,6 +60,7 @@ fn element(
 
 // The elements joined by commas, `-` where there are none.
 fn show(
+    rt: HostRuntime,
     len: usize,
     b: &[u8],
     h: &[u16],
@@ -73,66 +74,66 @@ fn show(
     out: &mut [u8],
 ) -> usize {
     if len == 0 {
-        return emit::byte(b'-', n, out);
+        return emit::byte(rt, b'-', n, out);
     }
     let mut p = n;
     let mut k: usize = 0;
     while k < len {
-        p = emit::item(k, element(k, b, h, w, i, j, l, y, x), p, out);
+        p = emit::item(rt, k, element(k, b, h, w, i, j, l, y, x), p, out);
         k += 1;
     }
     p
 }
 
 // A list of u8.
-pub fn show_u8(list: &[u8], n: usize, out: &mut [u8]) -> usize {
-    show(list.len(), list, &H, &W, &I, &J, &L, &Y, &X, n, out)
+pub fn show_u8(rt: HostRuntime, list: &[u8], n: usize, out: &mut [u8]) -> usize {
+    show(rt, list.len(), list, &H, &W, &I, &J, &L, &Y, &X, n, out)
 }
 
 // A list of u16.
-pub fn show_u16(list: &[u16], n: usize, out: &mut [u8]) -> usize {
-    show(list.len(), &B, list, &W, &I, &J, &L, &Y, &X, n, out)
+pub fn show_u16(rt: HostRuntime, list: &[u16], n: usize, out: &mut [u8]) -> usize {
+    show(rt, list.len(), &B, list, &W, &I, &J, &L, &Y, &X, n, out)
 }
 
 // A list of u32.
-pub fn show_u32(list: &[u32], n: usize, out: &mut [u8]) -> usize {
-    show(list.len(), &B, &H, list, &I, &J, &L, &Y, &X, n, out)
+pub fn show_u32(rt: HostRuntime, list: &[u32], n: usize, out: &mut [u8]) -> usize {
+    show(rt, list.len(), &B, &H, list, &I, &J, &L, &Y, &X, n, out)
 }
 
 // A list of i16.
-pub fn show_i16(list: &[i16], n: usize, out: &mut [u8]) -> usize {
-    show(list.len(), &B, &H, &W, list, &J, &L, &Y, &X, n, out)
+pub fn show_i16(rt: HostRuntime, list: &[i16], n: usize, out: &mut [u8]) -> usize {
+    show(rt, list.len(), &B, &H, &W, list, &J, &L, &Y, &X, n, out)
 }
 
 // A list of i32.
-pub fn show_i32(list: &[i32], n: usize, out: &mut [u8]) -> usize {
-    show(list.len(), &B, &H, &W, &I, list, &L, &Y, &X, n, out)
+pub fn show_i32(rt: HostRuntime, list: &[i32], n: usize, out: &mut [u8]) -> usize {
+    show(rt, list.len(), &B, &H, &W, &I, list, &L, &Y, &X, n, out)
 }
 
 // A list of i64.
-pub fn show_i64(list: &[i64], n: usize, out: &mut [u8]) -> usize {
-    show(list.len(), &B, &H, &W, &I, &J, list, &Y, &X, n, out)
+pub fn show_i64(rt: HostRuntime, list: &[i64], n: usize, out: &mut [u8]) -> usize {
+    show(rt, list.len(), &B, &H, &W, &I, &J, list, &Y, &X, n, out)
 }
 
 // A list of f32.
-pub fn show_f32(list: &[f32], n: usize, out: &mut [u8]) -> usize {
-    show(list.len(), &B, &H, &W, &I, &J, &L, list, &X, n, out)
+pub fn show_f32(rt: HostRuntime, list: &[f32], n: usize, out: &mut [u8]) -> usize {
+    show(rt, list.len(), &B, &H, &W, &I, &J, &L, list, &X, n, out)
 }
 
 // A list of f64.
-pub fn show_f64(list: &[f64], n: usize, out: &mut [u8]) -> usize {
-    show(list.len(), &B, &H, &W, &I, &J, &L, &Y, list, n, out)
+pub fn show_f64(rt: HostRuntime, list: &[f64], n: usize, out: &mut [u8]) -> usize {
+    show(rt, list.len(), &B, &H, &W, &I, &J, &L, &Y, list, n, out)
 }
 
 // The bytes as two hexadecimal digits each, `-` where there are none.
-pub fn show_hex(list: &[u8], n: usize, out: &mut [u8]) -> usize {
+pub fn show_hex(rt: HostRuntime, list: &[u8], n: usize, out: &mut [u8]) -> usize {
     if list.len() == 0 {
-        return emit::byte(b'-', n, out);
+        return emit::byte(rt, b'-', n, out);
     }
     let mut p = n;
     let mut i: usize = 0;
     while i < list.len() {
-        p = emit::pair(list[i], p, out);
+        p = emit::pair(rt, list[i], p, out);
         i += 1;
     }
     p

@@ -1,6 +1,6 @@
 // Answers the requests of standard input, a line each (docs/PROTOCOL.md).
 #![tactic(auto)]
 
-fn main() {
-    ask_program::run();
+fn main(rt: HostRuntime) {
+    ask_program::run(rt);
 }

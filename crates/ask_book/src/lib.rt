@@ -6,7 +6,7 @@ use request_fields::{fields, u8s};
 use sheet::Sheet;
 
 // The line's answer, where it is this request. The lists stand in a function of its own, so that other requests do not pay for them.
-pub fn answer(line: &[u8], s: Said, out: &mut [u8]) -> Said {
+pub fn answer(rt: HostRuntime, line: &[u8], s: Said, out: &mut [u8]) -> Said {
     if s.done {
         return s;
     }
@@ -15,29 +15,36 @@ pub fn answer(line: &[u8], s: Said, out: &mut [u8]) -> Said {
     }
     let f = request_fields::first_fault(line, b"t");
     if f.reason != 0 {
-        return answer_lines::told(answer_lines::bad(f.word, f.reason, s.n, out));
+        return answer_lines::told(answer_lines::bad(rt, f.word, f.reason, s.n, out));
     }
-    of_line(line, s.n, out)
+    of_line(rt, line, s.n, out)
 }
 
 // The lists of `read`, and nothing else: one call. A report has at most 188 bytes.
-fn of_line(line: &[u8], n: usize, out: &mut [u8]) -> Said {
+fn of_line(rt: HostRuntime, line: &[u8], n: usize, out: &mut [u8]) -> Said {
     let mut text = [0u8; 131072];
     let mut room = [0u8; 256];
-    read(line, n, out, &mut text, &mut room)
+    read(rt, line, n, out, &mut text, &mut room)
 }
 
 // The text of the line, and its report.
-fn read(line: &[u8], n: usize, out: &mut [u8], text: &mut [u8], room: &mut [u8]) -> Said {
+fn read(
+    rt: HostRuntime,
+    line: &[u8],
+    n: usize,
+    out: &mut [u8],
+    text: &mut [u8],
+    room: &mut [u8],
+) -> Said {
     let a: usize = 0;
     let e = u8s::read_hex(line, 1, text);
     let r = book::book(&text[a..e]);
     let answer = book_text::write_report(r, room);
-    shown(answer, room, n, out)
+    shown(rt, answer, room, n, out)
 }
 
 // The first bytes of the list, which are the report; none where it has no room, which does not come.
-fn shown(answer: Sheet, room: &[u8], n: usize, out: &mut [u8]) -> Said {
+fn shown(rt: HostRuntime, answer: Sheet, room: &[u8], n: usize, out: &mut [u8]) -> Said {
     let a: usize = 0;
     let Sheet::Written(length) = answer else {
         return answer_lines::told(n);
@@ -46,5 +53,5 @@ fn shown(answer: Sheet, room: &[u8], n: usize, out: &mut [u8]) -> Said {
     if room.len() < e {
         return answer_lines::told(n);
     }
-    answer_lines::told(answer_lines::u8s::show_hex(&room[a..e], n, out))
+    answer_lines::told(answer_lines::u8s::show_hex(rt, &room[a..e], n, out))
 }

@@ -21,11 +21,11 @@ fn centring(none: bool, line: &[u8]) -> Centring {
 }
 
 // The line's answer.
-pub(crate) fn fit(line: &[u8], n: usize, out: &mut [u8]) -> Said {
+pub(crate) fn fit(rt: HostRuntime, line: &[u8], n: usize, out: &mut [u8]) -> Said {
     let none = fields::is(line, 5, b"none");
     let f = fault_of(none, line);
     if f.reason != 0 {
-        return answer_lines::told(answer_lines::bad(f.word, f.reason, n, out));
+        return answer_lines::told(answer_lines::bad(rt, f.word, f.reason, n, out));
     }
     let place = centring(none, line);
     let fitted = crop_fit::fit_src_into_dst_size(
@@ -35,7 +35,7 @@ pub(crate) fn fit(line: &[u8], n: usize, out: &mut [u8]) -> Said {
         fields::whole(line, 4),
         place,
     );
-    show(fitted.number(), box_of(fitted), n, out)
+    show(rt, fitted.number(), box_of(fitted), n, out)
 }
 
 // The box, or the four numbers beside a refusal.
@@ -57,10 +57,10 @@ fn no_box() -> CropBox {
 }
 
 // A number and four doubles.
-fn show(no: u32, b: CropBox, n: usize, out: &mut [u8]) -> Said {
-    let p = emit::whole(no, n, out);
-    let q = emit::next_double(b.left, p, out);
-    let r = emit::next_double(b.top, q, out);
-    let s = emit::next_double(b.width, r, out);
-    answer_lines::told(emit::next_double(b.height, s, out))
+fn show(rt: HostRuntime, no: u32, b: CropBox, n: usize, out: &mut [u8]) -> Said {
+    let p = emit::whole(rt, no, n, out);
+    let q = emit::next_double(rt, b.left, p, out);
+    let r = emit::next_double(rt, b.top, q, out);
+    let s = emit::next_double(rt, b.width, r, out);
+    answer_lines::told(emit::next_double(rt, b.height, s, out))
 }

@@ -10,6 +10,7 @@ use request_fields::fields;
 
 // The line's answer, where it is one of these requests.
 pub fn answer(
+    rt: HostRuntime,
     line: &[u8],
     s: Said,
     out: &mut [u8],
@@ -24,18 +25,18 @@ pub fn answer(
         return s;
     }
     if fields::is(line, 0, b"norm16") {
-        return norm16::of_line(line, s.n, out, weights, starts, sizes, narrow, excesses);
+        return norm16::of_line(rt, line, s.n, out, weights, starts, sizes, narrow, excesses);
     }
     if fields::is(line, 0, b"norm32") {
-        return norm32::of_line(line, s.n, out, weights, starts, sizes, wide, excesses);
+        return norm32::of_line(rt, line, s.n, out, weights, starts, sizes, wide, excesses);
     }
     s
 }
 
 // The number of the answer, and the precision.
-pub(crate) fn show(answer: Normalized, n: usize, out: &mut [u8]) -> usize {
-    let p = emit::whole(answer.number(), n, out);
-    emit::next_whole(precision(answer), p, out)
+pub(crate) fn show(rt: HostRuntime, answer: Normalized, n: usize, out: &mut [u8]) -> usize {
+    let p = emit::whole(rt, answer.number(), n, out);
+    emit::next_whole(rt, precision(answer), p, out)
 }
 
 // The precision, 0 beside a refusal.

@@ -5,6 +5,7 @@ use vertical::Frame;
 
 // The line's answer.
 pub(crate) fn of_line(
+    rt: HostRuntime,
     line: &[u8],
     n: usize,
     out: &mut [u8],
@@ -16,13 +17,14 @@ pub(crate) fn of_line(
 ) -> Said {
     let f = request_fields::first_fault(line, b"wwwwwXWWYn");
     if f.reason != 0 {
-        return answer_lines::told(answer_lines::bad(f.word, f.reason, n, out));
+        return answer_lines::told(answer_lines::bad(rt, f.word, f.reason, n, out));
     }
     let a: usize = 0;
     let slots = f64s::read(line, 6, weights);
     let i = u32s::read(line, 7, starts);
     let j = u32s::read(line, 8, sizes);
     framed(
+        rt,
         line,
         &weights[a..slots],
         &starts[a..i],
@@ -36,6 +38,7 @@ pub(crate) fn of_line(
 
 // SAMPLES and NOUT, the last two words.
 fn framed(
+    rt: HostRuntime,
     line: &[u8],
     weights: &[f64],
     starts: &[u32],
@@ -49,6 +52,7 @@ fn framed(
     let l = f32s::read(line, 9, samples);
     let m = f32s::lend(line, 10, lent);
     pass(
+        rt,
         line,
         weights,
         starts,
@@ -62,6 +66,7 @@ fn framed(
 
 // The pass itself; the number, how many samples of the output are infinite, and the output.
 fn pass(
+    rt: HostRuntime,
     line: &[u8],
     weights: &[f64],
     starts: &[u32],
@@ -85,8 +90,8 @@ fn pass(
         fields::whole(line, 5),
         lent,
     );
-    let p = emit::whole(answer.number(), n, out);
-    let k = emit::next_whole(answer.infinite(), p, out);
-    let q = emit::byte(b' ', k, out);
-    answer_lines::told(answer_lines::f32s::show(lent, q, out))
+    let p = emit::whole(rt, answer.number(), n, out);
+    let k = emit::next_whole(rt, answer.infinite(), p, out);
+    let q = emit::byte(rt, b' ', k, out);
+    answer_lines::told(answer_lines::f32s::show(rt, lent, q, out))
 }

@@ -9,6 +9,7 @@ use request_fields::fields;
 
 // The line's answer, where it is `u16pass`.
 pub fn answer_u16(
+    rt: HostRuntime,
     line: &[u8],
     s: Said,
     out: &mut [u8],
@@ -24,7 +25,7 @@ pub fn answer_u16(
     }
     if fields::is(line, 0, b"u16pass") {
         return u16pass::of_line(
-            line, s.n, out, weights, starts, sizes, excesses, samples, lent,
+            rt, line, s.n, out, weights, starts, sizes, excesses, samples, lent,
         );
     }
     s
@@ -32,6 +33,7 @@ pub fn answer_u16(
 
 // The line's answer, where it is `f32pass`.
 pub fn answer_f32(
+    rt: HostRuntime,
     line: &[u8],
     s: Said,
     out: &mut [u8],
@@ -45,7 +47,7 @@ pub fn answer_f32(
         return s;
     }
     if fields::is(line, 0, b"f32pass") {
-        return f32pass::of_line(line, s.n, out, weights, starts, sizes, samples, lent);
+        return f32pass::of_line(rt, line, s.n, out, weights, starts, sizes, samples, lent);
     }
     s
 }

@@ -5,6 +5,7 @@ use vertical::Frame;
 
 // The line's answer.
 pub(crate) fn of_line(
+    rt: HostRuntime,
     line: &[u8],
     n: usize,
     out: &mut [u8],
@@ -17,7 +18,7 @@ pub(crate) fn of_line(
 ) -> Said {
     let f = request_fields::first_fault(line, b"wwwwwwJWWQHn");
     if f.reason != 0 {
-        return answer_lines::told(answer_lines::bad(f.word, f.reason, n, out));
+        return answer_lines::told(answer_lines::bad(rt, f.word, f.reason, n, out));
     }
     let a: usize = 0;
     let slots = i32s::read(line, 7, weights);
@@ -25,6 +26,7 @@ pub(crate) fn of_line(
     let j = u32s::read(line, 9, sizes);
     let k = i64s::read(line, 10, excesses);
     framed(
+        rt,
         line,
         &weights[a..slots],
         &starts[a..i],
@@ -39,6 +41,7 @@ pub(crate) fn of_line(
 
 // SAMPLES and NOUT, the last two words.
 fn framed(
+    rt: HostRuntime,
     line: &[u8],
     weights: &[i32],
     starts: &[u32],
@@ -53,6 +56,7 @@ fn framed(
     let l = u16s::read(line, 11, samples);
     let m = u16s::lend(line, 12, lent);
     pass(
+        rt,
         line,
         weights,
         starts,
@@ -67,6 +71,7 @@ fn framed(
 
 // The pass itself; the number and the output.
 fn pass(
+    rt: HostRuntime,
     line: &[u8],
     weights: &[i32],
     starts: &[u32],
@@ -93,7 +98,7 @@ fn pass(
         fields::whole(line, 6),
         lent,
     );
-    let p = emit::whole(answer.number(), n, out);
-    let q = emit::byte(b' ', p, out);
-    answer_lines::told(answer_lines::u16s::show(lent, q, out))
+    let p = emit::whole(rt, answer.number(), n, out);
+    let q = emit::byte(rt, b' ', p, out);
+    answer_lines::told(answer_lines::u16s::show(rt, lent, q, out))
 }

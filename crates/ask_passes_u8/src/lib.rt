@@ -7,6 +7,7 @@ use vertical::Frame;
 
 // The line's answer, where it is this request.
 pub fn answer(
+    rt: HostRuntime,
     line: &[u8],
     s: Said,
     out: &mut [u8],
@@ -22,7 +23,7 @@ pub fn answer(
     }
     if fields::is(line, 0, b"u8pass") {
         return of_line(
-            line, s.n, out, weights, starts, sizes, excesses, samples, lent,
+            rt, line, s.n, out, weights, starts, sizes, excesses, samples, lent,
         );
     }
     s
@@ -30,6 +31,7 @@ pub fn answer(
 
 // The line's answer.
 fn of_line(
+    rt: HostRuntime,
     line: &[u8],
     n: usize,
     out: &mut [u8],
@@ -42,7 +44,7 @@ fn of_line(
 ) -> Said {
     let f = request_fields::first_fault(line, b"wwwwwwIWWQBn");
     if f.reason != 0 {
-        return answer_lines::told(answer_lines::bad(f.word, f.reason, n, out));
+        return answer_lines::told(answer_lines::bad(rt, f.word, f.reason, n, out));
     }
     let a: usize = 0;
     let slots = i16s::read(line, 7, weights);
@@ -50,6 +52,7 @@ fn of_line(
     let j = u32s::read(line, 9, sizes);
     let k = i64s::read(line, 10, excesses);
     framed(
+        rt,
         line,
         &weights[a..slots],
         &starts[a..i],
@@ -64,6 +67,7 @@ fn of_line(
 
 // SAMPLES and NOUT, the last two words.
 fn framed(
+    rt: HostRuntime,
     line: &[u8],
     weights: &[i16],
     starts: &[u32],
@@ -78,6 +82,7 @@ fn framed(
     let l = u8s::read(line, 11, samples);
     let m = u8s::lend(line, 12, lent);
     pass(
+        rt,
         line,
         weights,
         starts,
@@ -92,6 +97,7 @@ fn framed(
 
 // The pass itself; the number and the output.
 fn pass(
+    rt: HostRuntime,
     line: &[u8],
     weights: &[i16],
     starts: &[u32],
@@ -118,7 +124,7 @@ fn pass(
         fields::whole(line, 6),
         lent,
     );
-    let p = emit::whole(answer.number(), n, out);
-    let q = emit::byte(b' ', p, out);
-    answer_lines::told(answer_lines::u8s::show(lent, q, out))
+    let p = emit::whole(rt, answer.number(), n, out);
+    let q = emit::byte(rt, b' ', p, out);
+    answer_lines::told(answer_lines::u8s::show(rt, lent, q, out))
 }

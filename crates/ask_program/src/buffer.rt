@@ -17,16 +17,15 @@ pub(crate) fn newline(s: &[u8], a: usize, e: usize) -> usize
 }
 
 // How many bytes are read behind the place a; 0 at the input's end.
-pub(crate) fn read_at(buf: &mut [u8], a: usize) -> usize
+pub(crate) fn read_at(rt: HostRuntime, buf: &mut [u8], a: usize) -> usize
     ensures { result ≤ length buf.old - a }
 {
     let e = buf.len();
     if e < a {
         return 0;
     }
-    let got = libc::read(libc::STDIN_FILENO, &mut buf[a..e]);
-    let n = io::count(got, buf);
-    if e - a < n { 0 } else { n }
+    let got = program_streams::read_once(&mut rt.stdin(), &mut buf[a..e]);
+    got.n
 }
 
 // Moves the bytes at .. end to the front.

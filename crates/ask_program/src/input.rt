@@ -3,7 +3,7 @@ use crate::buffer;
 
 // The bytes at .. end are read and not yet answered. `whole`: the bytes at .. to are a line to be answered; `long`: they are the rest of one that
 // did not fit; `done`: the input has ended, and nothing is left. n is the output's place.
-#[derive(Drop)]
+#[derive(Clone, Copy)]
 pub(crate) struct State {
     pub(crate) at: usize,
     pub(crate) to: usize,
@@ -67,7 +67,7 @@ fn going(end: usize, long: bool, n: usize) -> State {
 }
 
 // The next line, or one more read.
-pub(crate) fn step(s: State, buf: &mut [u8]) -> State {
+pub(crate) fn step(rt: HostRuntime, s: State, buf: &mut [u8]) -> State {
     let at = s.at;
     let end = s.end;
     if buf.len() < end {
@@ -80,11 +80,11 @@ pub(crate) fn step(s: State, buf: &mut [u8]) -> State {
     if c < end {
         return whole(at, c, end, s.long, false, s.n);
     }
-    refill(s, buf)
+    refill(rt, s, buf)
 }
 
 // Moves what is left to the front and reads behind it. A buffer full of one line is forgotten, and the line is `long`. The last line needs no newline.
-fn refill(s: State, buf: &mut [u8]) -> State {
+fn refill(rt: HostRuntime, s: State, buf: &mut [u8]) -> State {
     let at = s.at;
     let end = s.end;
     if end < at {
@@ -95,7 +95,7 @@ fn refill(s: State, buf: &mut [u8]) -> State {
     }
     buffer::shift(buf, at, end);
     let left = end - at;
-    let got = buffer::read_at(buf, left);
+    let got = buffer::read_at(rt, buf, left);
     if 0 < got {
         return more(left, got, s.long, s.n);
     }

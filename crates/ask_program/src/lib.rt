@@ -9,22 +9,22 @@ mod line;
 use answer_lines::emit;
 
 // Answers standard input to its end. The buffers stand here, apart from the loop.
-pub fn run() {
+pub fn run(rt: HostRuntime) {
     let mut buf = [0u8; 262144];
     let mut out = [0u8; 65536];
-    serve(&mut buf, &mut out);
+    serve(rt, &mut buf, &mut out);
 }
 
 // Nothing says that the input ends, so the turns are counted down from a number that no run uses up.
-fn serve(buf: &mut [u8], out: &mut [u8]) {
+fn serve(rt: HostRuntime, buf: &mut [u8], out: &mut [u8]) {
     let mut s = input::first();
     let mut turns = u64::MAX;
     while turns > 0 {
-        let t = input::step(s, buf);
-        let n = line::answered(t, buf, out);
+        let t = input::step(rt, s, buf);
+        let n = line::answered(rt, t, buf, out);
         s = input::after(t, n);
         if s.done {
-            emit::flush(s.n, out);
+            emit::flush(rt, s.n, out);
             return;
         }
         turns -= 1;

@@ -29,32 +29,32 @@ fn part_of(s: State, buf: &[u8]) -> Part
 
 // What is answered before the groups are asked: an empty line by an empty line, a line too long, a carriage return at its end. Where there is no line,
 // nothing.
-fn begun(s: State, line: &[u8], out: &mut [u8]) -> Said {
+fn begun(rt: HostRuntime, s: State, line: &[u8], out: &mut [u8]) -> Said {
     if s.long & s.whole {
-        return answer_lines::told(answer_lines::bad(0, b'l', s.n, out));
+        return answer_lines::told(answer_lines::bad(rt, 0, b'l', s.n, out));
     }
     let e = line.len();
     if e == 0 {
         return answer_lines::told(s.n);
     }
     if line[e - 1] == b'\r' {
-        return answer_lines::told(answer_lines::bad(0, b'r', s.n, out));
+        return answer_lines::told(answer_lines::bad(rt, 0, b'r', s.n, out));
     }
     answer_lines::unsaid(s.n)
 }
 
 // The end of the line's answer, where there was a line.
-fn ended(whole: bool, s: Said, out: &mut [u8]) -> usize {
+fn ended(rt: HostRuntime, whole: bool, s: Said, out: &mut [u8]) -> usize {
     if whole {
-        return answer_lines::closed(s, out);
+        return answer_lines::closed(rt, s, out);
     }
     s.n
 }
 
 // The groups that need no lists.
-fn small_groups(line: &[u8], a: Said, out: &mut [u8]) -> Said {
-    let b = ask_numbers::answer(line, a, out);
-    ask_crop::answer(line, b, out)
+fn small_groups(rt: HostRuntime, line: &[u8], a: Said, out: &mut [u8]) -> Said {
+    let b = ask_numbers::answer(rt, line, a, out);
+    ask_crop::answer(rt, line, b, out)
 }
 
 // Whether a line begins with a letter. A group's lists are laid out only for a line that begins as its words do: all are zeros first, and that takes longer than an answer.
@@ -65,8 +65,13 @@ fn begins(line: &[u8], letter: u8) -> bool {
     line[0] == letter
 }
 
+// The room of a text as a list: where it is borrowed its length stands in its type, and need not be counted from its zeros.
+fn room_list(room: &mut [u8; 524288]) -> &mut [u8] {
+    room
+}
+
 // The lists of `ask_alpha::answer`, and nothing else: one call.
-fn pixels(line: &[u8], a: Said, out: &mut [u8]) -> Said {
+fn pixels(rt: HostRuntime, line: &[u8], a: Said, out: &mut [u8]) -> Said {
     if a.done {
         return a;
     }
@@ -75,11 +80,11 @@ fn pixels(line: &[u8], a: Said, out: &mut [u8]) -> Said {
     }
     let mut bytes = [0u8; 131072];
     let mut room = [0u8; 524288];
-    ask_alpha::answer(line, a, out, &mut bytes, &mut room)
+    ask_alpha::answer(rt, line, a, out, &mut bytes, room_list(&mut room))
 }
 
 // The lists of `ask_alpha_u16::answer`, and nothing else: one call.
-fn wide_pixels(line: &[u8], a: Said, out: &mut [u8]) -> Said {
+fn wide_pixels(rt: HostRuntime, line: &[u8], a: Said, out: &mut [u8]) -> Said {
     if a.done {
         return a;
     }
@@ -88,11 +93,11 @@ fn wide_pixels(line: &[u8], a: Said, out: &mut [u8]) -> Said {
     }
     let mut source = [0u16; 131072];
     let mut lent = [0u16; 131072];
-    ask_alpha_u16::answer(line, a, out, &mut source, &mut lent)
+    ask_alpha_u16::answer(rt, line, a, out, &mut source, &mut lent)
 }
 
 // The lists of `ask_normalizer::answer`, and nothing else: one call.
-fn integers(line: &[u8], a: Said, out: &mut [u8]) -> Said {
+fn integers(rt: HostRuntime, line: &[u8], a: Said, out: &mut [u8]) -> Said {
     if a.done {
         return a;
     }
@@ -106,6 +111,7 @@ fn integers(line: &[u8], a: Said, out: &mut [u8]) -> Said {
     let mut wide = [0i32; 131072];
     let mut excesses = [0i64; 131072];
     ask_normalizer::answer(
+        rt,
         line,
         a,
         out,
@@ -119,7 +125,7 @@ fn integers(line: &[u8], a: Said, out: &mut [u8]) -> Said {
 }
 
 // The lists of `ask_weights::answer`, and nothing else: one call.
-fn windows(line: &[u8], a: Said, out: &mut [u8]) -> Said {
+fn windows(rt: HostRuntime, line: &[u8], a: Said, out: &mut [u8]) -> Said {
     if a.done {
         return a;
     }
@@ -129,11 +135,11 @@ fn windows(line: &[u8], a: Said, out: &mut [u8]) -> Said {
     let mut slots = [0.0f64; 131072];
     let mut starts = [0u32; 131072];
     let mut sizes = [0u32; 131072];
-    ask_weights::answer(line, a, out, &mut slots, &mut starts, &mut sizes)
+    ask_weights::answer(rt, line, a, out, &mut slots, &mut starts, &mut sizes)
 }
 
 // The lists of `ask_passes::answer_u16`, and nothing else: one call.
-fn frames(line: &[u8], a: Said, out: &mut [u8]) -> Said {
+fn frames(rt: HostRuntime, line: &[u8], a: Said, out: &mut [u8]) -> Said {
     if a.done {
         return a;
     }
@@ -147,6 +153,7 @@ fn frames(line: &[u8], a: Said, out: &mut [u8]) -> Said {
     let mut samples = [0u16; 131072];
     let mut columns = [0u16; 131072];
     ask_passes::answer_u16(
+        rt,
         line,
         a,
         out,
@@ -160,7 +167,7 @@ fn frames(line: &[u8], a: Said, out: &mut [u8]) -> Said {
 }
 
 // The lists of `ask_passes_u8::answer`, and nothing else: one call.
-fn byte_frames(line: &[u8], a: Said, out: &mut [u8]) -> Said {
+fn byte_frames(rt: HostRuntime, line: &[u8], a: Said, out: &mut [u8]) -> Said {
     if a.done {
         return a;
     }
@@ -174,6 +181,7 @@ fn byte_frames(line: &[u8], a: Said, out: &mut [u8]) -> Said {
     let mut samples = [0u8; 131072];
     let mut columns = [0u8; 131072];
     ask_passes_u8::answer(
+        rt,
         line,
         a,
         out,
@@ -187,7 +195,7 @@ fn byte_frames(line: &[u8], a: Said, out: &mut [u8]) -> Said {
 }
 
 // The lists of `ask_passes::answer_f32`, and nothing else: one call.
-fn float_frames(line: &[u8], a: Said, out: &mut [u8]) -> Said {
+fn float_frames(rt: HostRuntime, line: &[u8], a: Said, out: &mut [u8]) -> Said {
     if a.done {
         return a;
     }
@@ -200,6 +208,7 @@ fn float_frames(line: &[u8], a: Said, out: &mut [u8]) -> Said {
     let mut floats = [0.0f32; 32768];
     let mut sums = [0.0f32; 131072];
     ask_passes::answer_f32(
+        rt,
         line,
         a,
         out,
@@ -212,7 +221,7 @@ fn float_frames(line: &[u8], a: Said, out: &mut [u8]) -> Said {
 }
 
 // The lists of `ask_sheet::answer`, and nothing else: one call.
-fn sheets(line: &[u8], a: Said, out: &mut [u8]) -> Said {
+fn sheets(rt: HostRuntime, line: &[u8], a: Said, out: &mut [u8]) -> Said {
     if a.done {
         return a;
     }
@@ -226,6 +235,7 @@ fn sheets(line: &[u8], a: Said, out: &mut [u8]) -> Said {
     let mut excesses = [0i64; 131072];
     let mut room = [0u8; 524288];
     ask_sheet::answer(
+        rt,
         line,
         a,
         out,
@@ -234,12 +244,12 @@ fn sheets(line: &[u8], a: Said, out: &mut [u8]) -> Said {
         &mut starts,
         &mut sizes,
         &mut excesses,
-        &mut room,
+        room_list(&mut room),
     )
 }
 
 // The lists of `ask_story::answer`, and nothing else: one call.
-fn stories(line: &[u8], a: Said, out: &mut [u8]) -> Said {
+fn stories(rt: HostRuntime, line: &[u8], a: Said, out: &mut [u8]) -> Said {
     if a.done {
         return a;
     }
@@ -253,6 +263,7 @@ fn stories(line: &[u8], a: Said, out: &mut [u8]) -> Said {
     let mut samples = [0u16; 131072];
     let mut room = [0u8; 524288];
     ask_story::answer(
+        rt,
         line,
         a,
         out,
@@ -261,12 +272,12 @@ fn stories(line: &[u8], a: Said, out: &mut [u8]) -> Said {
         &mut sizes,
         &mut excesses,
         &mut samples,
-        &mut room,
+        room_list(&mut room),
     )
 }
 
 // The lists of `ask_reader::answer`, and nothing else: one call.
-fn readings(line: &[u8], a: Said, out: &mut [u8]) -> Said {
+fn readings(rt: HostRuntime, line: &[u8], a: Said, out: &mut [u8]) -> Said {
     if a.done {
         return a;
     }
@@ -279,6 +290,7 @@ fn readings(line: &[u8], a: Said, out: &mut [u8]) -> Said {
     let mut sizes = [0u32; 131072];
     let mut excesses = [0i64; 131072];
     ask_reader::answer(
+        rt,
         line,
         a,
         out,
@@ -291,7 +303,7 @@ fn readings(line: &[u8], a: Said, out: &mut [u8]) -> Said {
 }
 
 // The lists of `ask_reader::answer16`, and nothing else: one call.
-fn narrow_readings(line: &[u8], a: Said, out: &mut [u8]) -> Said {
+fn narrow_readings(rt: HostRuntime, line: &[u8], a: Said, out: &mut [u8]) -> Said {
     if a.done {
         return a;
     }
@@ -304,6 +316,7 @@ fn narrow_readings(line: &[u8], a: Said, out: &mut [u8]) -> Said {
     let mut sizes = [0u32; 131072];
     let mut excesses = [0i64; 131072];
     ask_reader::answer16(
+        rt,
         line,
         a,
         out,
@@ -316,7 +329,7 @@ fn narrow_readings(line: &[u8], a: Said, out: &mut [u8]) -> Said {
 }
 
 // The lists of `ask_store::answer`, and nothing else: one call. They are not filled for another group's line.
-fn stores(line: &[u8], a: Said, out: &mut [u8]) -> Said {
+fn stores(rt: HostRuntime, line: &[u8], a: Said, out: &mut [u8]) -> Said {
     if a.done {
         return a;
     }
@@ -330,6 +343,7 @@ fn stores(line: &[u8], a: Said, out: &mut [u8]) -> Said {
     let mut sizes = [0u32; 16384];
     let mut excesses = [0i64; 16384];
     ask_store::answer(
+        rt,
         line,
         a,
         out,
@@ -343,47 +357,47 @@ fn stores(line: &[u8], a: Said, out: &mut [u8]) -> Said {
 }
 
 // Those that have lists of their own.
-fn before(line: &[u8], a: Said, out: &mut [u8]) -> Said {
-    let b = ask_repairs::answer(line, a, out);
-    let c = ask_book::answer(line, b, out);
-    ask_sideways::answer(line, c, out)
+fn before(rt: HostRuntime, line: &[u8], a: Said, out: &mut [u8]) -> Said {
+    let b = ask_repairs::answer(rt, line, a, out);
+    let c = ask_book::answer(rt, line, b, out);
+    ask_sideways::answer(rt, line, c, out)
 }
 
 // The first of the groups.
-fn early(line: &[u8], a: Said, out: &mut [u8]) -> Said {
-    let b = small_groups(line, a, out);
-    let c = pixels(line, b, out);
-    let d = wide_pixels(line, c, out);
-    let e = integers(line, d, out);
-    windows(line, e, out)
+fn early(rt: HostRuntime, line: &[u8], a: Said, out: &mut [u8]) -> Said {
+    let b = small_groups(rt, line, a, out);
+    let c = pixels(rt, line, b, out);
+    let d = wide_pixels(rt, line, c, out);
+    let e = integers(rt, line, d, out);
+    windows(rt, line, e, out)
 }
 
 // Those about frames, and the sheet.
-fn late(line: &[u8], a: Said, out: &mut [u8]) -> Said {
-    let b = frames(line, a, out);
-    let c = byte_frames(line, b, out);
-    let d = float_frames(line, c, out);
-    sheets(line, d, out)
+fn late(rt: HostRuntime, line: &[u8], a: Said, out: &mut [u8]) -> Said {
+    let b = frames(rt, line, a, out);
+    let c = byte_frames(rt, line, b, out);
+    let d = float_frames(rt, line, c, out);
+    sheets(rt, line, d, out)
 }
 
 // The rest of them.
-fn last(line: &[u8], a: Said, out: &mut [u8]) -> Said {
-    let b = readings(line, a, out);
-    let c = narrow_readings(line, b, out);
-    let d = stores(line, c, out);
-    stories(line, d, out)
+fn last(rt: HostRuntime, line: &[u8], a: Said, out: &mut [u8]) -> Said {
+    let b = readings(rt, line, a, out);
+    let c = narrow_readings(rt, line, b, out);
+    let d = stores(rt, line, c, out);
+    stories(rt, line, d, out)
 }
 
 // The answer to the line at s.at .. s.to, if there is one; the output's place behind it.
-pub(crate) fn answered(s: State, buf: &[u8], out: &mut [u8]) -> usize {
+pub(crate) fn answered(rt: HostRuntime, s: State, buf: &[u8], out: &mut [u8]) -> usize {
     let p = part_of(s, buf);
     let from = p.from;
     let to = p.to;
     let line = &buf[from..to];
-    let a = begun(s, line, out);
-    let b = before(line, a, out);
-    let c = early(line, b, out);
-    let d = late(line, c, out);
-    let e = last(line, d, out);
-    ended(s.whole, e, out)
+    let a = begun(rt, s, line, out);
+    let b = before(rt, line, a, out);
+    let c = early(rt, line, b, out);
+    let d = late(rt, line, c, out);
+    let e = last(rt, line, d, out);
+    ended(rt, s.whole, e, out)
 }

@@ -11,6 +11,7 @@ use request_fields::fields;
 
 // The line's answer, where it is `read`.
 pub fn answer(
+    rt: HostRuntime,
     line: &[u8],
     s: Said,
     out: &mut [u8],
@@ -28,13 +29,14 @@ pub fn answer(
     }
     let f = request_fields::first_fault(line, b"tnnnn");
     if f.reason != 0 {
-        return answer_lines::told(answer_lines::bad(f.word, f.reason, s.n, out));
+        return answer_lines::told(answer_lines::bad(rt, f.word, f.reason, s.n, out));
     }
-    either::of_line(line, s.n, out, text, weights, starts, sizes, excesses)
+    either::of_line(rt, line, s.n, out, text, weights, starts, sizes, excesses)
 }
 
 // The line's answer, where it is `read16`.
 pub fn answer16(
+    rt: HostRuntime,
     line: &[u8],
     s: Said,
     out: &mut [u8],
@@ -52,7 +54,7 @@ pub fn answer16(
     }
     let f = request_fields::first_fault(line, b"tnnnn");
     if f.reason != 0 {
-        return answer_lines::told(answer_lines::bad(f.word, f.reason, s.n, out));
+        return answer_lines::told(answer_lines::bad(rt, f.word, f.reason, s.n, out));
     }
-    narrow::of_line(line, s.n, out, text, weights, starts, sizes, excesses)
+    narrow::of_line(rt, line, s.n, out, text, weights, starts, sizes, excesses)
 }

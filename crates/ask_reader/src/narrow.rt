@@ -4,6 +4,7 @@ use request_fields::{i16s, i64s, u8s, u32s};
 
 // The line's answer.
 pub(crate) fn of_line(
+    rt: HostRuntime,
     line: &[u8],
     n: usize,
     out: &mut [u8],
@@ -15,11 +16,22 @@ pub(crate) fn of_line(
 ) -> Said {
     let a: usize = 0;
     let e = u8s::read_hex(line, 1, text);
-    lists(line, n, out, &text[a..e], weights, starts, sizes, excesses)
+    lists(
+        rt,
+        line,
+        n,
+        out,
+        &text[a..e],
+        weights,
+        starts,
+        sizes,
+        excesses,
+    )
 }
 
 // Slots and starts, lent as long as NSLOTS and NSTARTS say.
 fn lists(
+    rt: HostRuntime,
     line: &[u8],
     n: usize,
     out: &mut [u8],
@@ -33,6 +45,7 @@ fn lists(
     let i = i16s::lend(line, 2, weights);
     let j = u32s::lend(line, 3, starts);
     last_lists(
+        rt,
         line,
         n,
         out,
@@ -46,6 +59,7 @@ fn lists(
 
 // Sizes and excesses, by the last two words.
 fn last_lists(
+    rt: HostRuntime,
     line: &[u8],
     n: usize,
     out: &mut [u8],
@@ -59,6 +73,7 @@ fn last_lists(
     let k = u32s::lend(line, 4, sizes);
     let l = i64s::lend(line, 5, excesses);
     read(
+        rt,
         text,
         weights,
         starts,
@@ -71,6 +86,7 @@ fn last_lists(
 
 // The reading itself.
 fn read(
+    rt: HostRuntime,
     text: &[u8],
     weights: &mut [i16],
     starts: &mut [u32],
@@ -80,8 +96,8 @@ fn read(
     out: &mut [u8],
 ) -> Said {
     let answer = reader::read_sheet16(text, weights, starts, sizes, excesses);
-    let p = crate::head::shown(answer, n, out);
-    let q = emit::byte(b' ', p, out);
-    let r = answer_lines::i16s::show(weights, q, out);
-    crate::head::windows(starts, sizes, excesses, r, out)
+    let p = crate::head::shown(rt, answer, n, out);
+    let q = emit::byte(rt, b' ', p, out);
+    let r = answer_lines::i16s::show(rt, weights, q, out);
+    crate::head::windows(rt, starts, sizes, excesses, r, out)
 }

@@ -4,19 +4,20 @@ use crate::{judging, read_after};
 use answer_lines::Said;
 
 // The line's answer.
-pub(crate) fn of_line(line: &[u8], n: usize, out: &mut [u8]) -> Said {
+pub(crate) fn of_line(rt: HostRuntime, line: &[u8], n: usize, out: &mut [u8]) -> Said {
     let mut list = [0u32; 131072];
-    windows(line, n, out, &mut list)
+    windows(rt, line, n, out, &mut list)
 }
 
 // The windows of the stored set and of the offer, one behind the other.
-fn windows(line: &[u8], n: usize, out: &mut [u8], list: &mut [u32]) -> Said {
+fn windows(rt: HostRuntime, line: &[u8], n: usize, out: &mut [u8], list: &mut [u32]) -> Said {
     let a: usize = 0;
     let i = read_after(line, 6, a, list);
     let j = read_after(line, 7, i, list);
     let k = read_after(line, 11, j, list);
     let l = read_after(line, 12, k, list);
     weights(
+        rt,
         line,
         n,
         out,
@@ -29,6 +30,7 @@ fn windows(line: &[u8], n: usize, out: &mut [u8], list: &mut [u32]) -> Said {
 
 // The weights of both, and the stored excesses.
 fn weights(
+    rt: HostRuntime,
     line: &[u8],
     n: usize,
     out: &mut [u8],
@@ -43,6 +45,7 @@ fn weights(
     let mut other_narrow = [0i16; 131072];
     let mut other_wide = [0i32; 131072];
     judging::offered(
+        rt,
         line,
         n,
         out,

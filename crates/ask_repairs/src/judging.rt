@@ -5,6 +5,7 @@ use request_fields::i64s;
 
 // The offered weights.
 pub(crate) fn offered(
+    rt: HostRuntime,
     line: &[u8],
     n: usize,
     out: &mut [u8],
@@ -22,6 +23,7 @@ pub(crate) fn offered(
     let h = weights::read16(line, 13, other_narrow);
     let w = weights::read32(line, 13, other_wide);
     stored(
+        rt,
         line,
         n,
         out,
@@ -39,6 +41,7 @@ pub(crate) fn offered(
 
 // The stored weights and excesses.
 fn stored(
+    rt: HostRuntime,
     line: &[u8],
     n: usize,
     out: &mut [u8],
@@ -57,6 +60,7 @@ fn stored(
     let w = weights::read32(line, 5, wide);
     let k = i64s::read(line, 8, excesses);
     accept(
+        rt,
         line,
         n,
         out,
@@ -74,6 +78,7 @@ fn stored(
 
 // The number, and the stored weights and excesses.
 fn accept(
+    rt: HostRuntime,
     line: &[u8],
     n: usize,
     out: &mut [u8],
@@ -99,9 +104,9 @@ fn accept(
         other_starts,
         other_sizes,
     );
-    let p = emit::whole(number, n, out);
-    let q = emit::byte(b' ', p, out);
-    let r = weights::show(line, narrow, wide, q, out);
-    let t = emit::byte(b' ', r, out);
-    answer_lines::told(answer_lines::i64s::show(excesses, t, out))
+    let p = emit::whole(rt, number, n, out);
+    let q = emit::byte(rt, b' ', p, out);
+    let r = weights::show(rt, line, narrow, wide, q, out);
+    let t = emit::byte(rt, b' ', r, out);
+    answer_lines::told(answer_lines::i64s::show(rt, excesses, t, out))
 }

@@ -16,23 +16,23 @@ use answer_lines::Said;
 use request_fields::{Fault, fields, u32s};
 
 // The line's answer, where it is one of these requests.
-pub fn answer(line: &[u8], s: Said, out: &mut [u8]) -> Said {
+pub fn answer(rt: HostRuntime, line: &[u8], s: Said, out: &mut [u8]) -> Said {
     if s.done {
         return s;
     }
     if fields::is(line, 0, b"accept") {
         let f = first_fault(line, b"wwwwIWWQwwWWI", b"wwwwJWWQwwWWJ");
         if f.reason != 0 {
-            return answer_lines::told(answer_lines::bad(f.word, f.reason, s.n, out));
+            return answer_lines::told(answer_lines::bad(rt, f.word, f.reason, s.n, out));
         }
-        return accepting::of_line(line, s.n, out);
+        return accepting::of_line(rt, line, s.n, out);
     }
     if fields::is(line, 0, b"offer") {
         let f = first_fault(line, b"wwwwIWWQn", b"wwwwJWWQn");
         if f.reason != 0 {
-            return answer_lines::told(answer_lines::bad(f.word, f.reason, s.n, out));
+            return answer_lines::told(answer_lines::bad(rt, f.word, f.reason, s.n, out));
         }
-        return offering::of_line(line, s.n, out);
+        return offering::of_line(rt, line, s.n, out);
     }
     s
 }

@@ -4,6 +4,7 @@ use answer_lines::{Said, emit};
 
 // The stored weights.
 pub(crate) fn stored(
+    rt: HostRuntime,
     line: &[u8],
     n: usize,
     out: &mut [u8],
@@ -19,6 +20,7 @@ pub(crate) fn stored(
     let h = weights::read16(line, 5, narrow);
     let w = weights::read32(line, 5, wide);
     lend(
+        rt,
         line,
         n,
         out,
@@ -34,6 +36,7 @@ pub(crate) fn stored(
 
 // The list for the offer, lent as long as NOUT says.
 fn lend(
+    rt: HostRuntime,
     line: &[u8],
     n: usize,
     out: &mut [u8],
@@ -49,6 +52,7 @@ fn lend(
     let h = weights::lend16(line, 9, lent_narrow);
     let w = weights::lend32(line, 9, lent_wide);
     offer(
+        rt,
         line,
         n,
         out,
@@ -64,6 +68,7 @@ fn lend(
 
 // The number, the line and the lent list.
 fn offer(
+    rt: HostRuntime,
     line: &[u8],
     n: usize,
     out: &mut [u8],
@@ -85,8 +90,8 @@ fn offer(
         lent_narrow,
         lent_wide,
     );
-    let p = emit::whole(answer.number(), n, out);
-    let q = emit::next_whole(answer.line(), p, out);
-    let r = emit::byte(b' ', q, out);
-    answer_lines::told(weights::show(line, lent_narrow, lent_wide, r, out))
+    let p = emit::whole(rt, answer.number(), n, out);
+    let q = emit::next_whole(rt, answer.line(), p, out);
+    let r = emit::byte(rt, b' ', q, out);
+    answer_lines::told(weights::show(rt, line, lent_narrow, lent_wide, r, out))
 }

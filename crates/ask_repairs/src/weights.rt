@@ -49,9 +49,16 @@ pub(crate) fn lend32(line: &[u8], k: usize, out: &mut [i32]) -> usize
 }
 
 // The list of the line's store.
-pub(crate) fn show(line: &[u8], narrow: &[i16], wide: &[i32], n: usize, out: &mut [u8]) -> usize {
+pub(crate) fn show(
+    rt: HostRuntime,
+    line: &[u8],
+    narrow: &[i16],
+    wide: &[i32],
+    n: usize,
+    out: &mut [u8],
+) -> usize {
     if are_narrow(line) {
-        return answer_lines::i16s::show(narrow, n, out);
+        return answer_lines::i16s::show(rt, narrow, n, out);
     }
-    answer_lines::i32s::show(wide, n, out)
+    answer_lines::i32s::show(rt, wide, n, out)
 }

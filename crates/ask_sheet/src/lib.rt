@@ -10,6 +10,7 @@ use sheet::Sheet;
 
 // The line's answer, where it is this request.
 pub fn answer(
+    rt: HostRuntime,
     line: &[u8],
     s: Said,
     out: &mut [u8],
@@ -27,13 +28,13 @@ pub fn answer(
         return s;
     }
     if fields::is(line, 4, b"16") {
-        return store16::of_line(line, s.n, out, narrow, starts, sizes, excesses, room);
+        return store16::of_line(rt, line, s.n, out, narrow, starts, sizes, excesses, room);
     }
     if fields::is(line, 4, b"32") {
-        return store32::of_line(line, s.n, out, wide, starts, sizes, excesses, room);
+        return store32::of_line(rt, line, s.n, out, wide, starts, sizes, excesses, room);
     }
     let f = store_fault(line);
-    answer_lines::told(answer_lines::bad(f.word, f.reason, s.n, out))
+    answer_lines::told(answer_lines::bad(rt, f.word, f.reason, s.n, out))
 }
 
 // The first fault of a line whose word 4 is no store: one before it, or that word itself.
@@ -55,12 +56,12 @@ fn store_fault(line: &[u8]) -> Fault {
 }
 
 // The number, the length and the lent list's bytes.
-pub(crate) fn show(answer: Sheet, lent: &[u8], n: usize, out: &mut [u8]) -> Said {
-    let p = emit::whole(answer.number(), n, out);
-    let q = emit::byte(b' ', p, out);
-    let r = emit::number(length(answer), q, out);
-    let t = emit::byte(b' ', r, out);
-    answer_lines::told(answer_lines::u8s::show_hex(lent, t, out))
+pub(crate) fn show(rt: HostRuntime, answer: Sheet, lent: &[u8], n: usize, out: &mut [u8]) -> Said {
+    let p = emit::whole(rt, answer.number(), n, out);
+    let q = emit::byte(rt, b' ', p, out);
+    let r = emit::number(rt, length(answer), q, out);
+    let t = emit::byte(rt, b' ', r, out);
+    answer_lines::told(answer_lines::u8s::show_hex(rt, lent, t, out))
 }
 
 // The sheet's length, 0 beside a refusal.

@@ -6,6 +6,7 @@ use request_fields::{fields, i16s, i64s, u8s, u32s};
 
 // The line's answer.
 pub(crate) fn of_line(
+    rt: HostRuntime,
     line: &[u8],
     n: usize,
     out: &mut [u8],
@@ -17,11 +18,11 @@ pub(crate) fn of_line(
 ) -> Said {
     let f = request_fields::first_fault(line, b"kwwwwIWWQm");
     if f.reason != 0 {
-        return answer_lines::told(answer_lines::bad(f.word, f.reason, n, out));
+        return answer_lines::told(answer_lines::bad(rt, f.word, f.reason, n, out));
     }
     let kind_read = filter_fields::kind_at(line, 1);
     let Kind::Is(kind) = kind_read else {
-        return answer_lines::told(answer_lines::bad(2, b'k', n, out));
+        return answer_lines::told(answer_lines::bad(rt, 2, b'k', n, out));
     };
     let a: usize = 0;
     let slots = i16s::read(line, 6, weights);
@@ -29,6 +30,7 @@ pub(crate) fn of_line(
     let j = u32s::read(line, 8, sizes);
     let k = i64s::read(line, 9, excesses);
     roomy(
+        rt,
         kind,
         line,
         &weights[a..slots],
@@ -43,6 +45,7 @@ pub(crate) fn of_line(
 
 // ROOM, the last word.
 fn roomy(
+    rt: HostRuntime,
     kind: FilterType,
     line: &[u8],
     weights: &[i16],
@@ -56,6 +59,7 @@ fn roomy(
     let a: usize = 0;
     let m = u8s::lend(line, 10, lent);
     write(
+        rt,
         kind,
         line,
         weights,
@@ -70,6 +74,7 @@ fn roomy(
 
 // The sheet itself.
 fn write(
+    rt: HostRuntime,
     kind: FilterType,
     line: &[u8],
     weights: &[i16],
@@ -91,5 +96,5 @@ fn write(
         excesses,
         lent,
     );
-    crate::show(answer, lent, n, out)
+    crate::show(rt, answer, lent, n, out)
 }

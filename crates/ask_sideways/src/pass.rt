@@ -5,6 +5,7 @@ use sideways_u16::PixelFrame;
 
 // The line's answer.
 pub(crate) fn of_line(
+    rt: HostRuntime,
     line: &[u8],
     n: usize,
     out: &mut [u8],
@@ -21,6 +22,7 @@ pub(crate) fn of_line(
     let j = u32s::read(line, 10, sizes);
     let k = i64s::read(line, 11, excesses);
     framed(
+        rt,
         line,
         &weights[a..slots],
         &starts[a..i],
@@ -35,6 +37,7 @@ pub(crate) fn of_line(
 
 // SAMPLES and NOUT, the last two words.
 fn framed(
+    rt: HostRuntime,
     line: &[u8],
     weights: &[i32],
     starts: &[u32],
@@ -49,6 +52,7 @@ fn framed(
     let l = u16s::read(line, 12, samples);
     let m = u16s::lend(line, 13, lent);
     pass(
+        rt,
         line,
         weights,
         starts,
@@ -63,6 +67,7 @@ fn framed(
 
 // The pass itself; the number and the output.
 fn pass(
+    rt: HostRuntime,
     line: &[u8],
     weights: &[i32],
     starts: &[u32],
@@ -90,7 +95,7 @@ fn pass(
         fields::whole(line, 7),
         lent,
     );
-    let p = emit::whole(answer.number(), n, out);
-    let q = emit::byte(b' ', p, out);
-    answer_lines::told(answer_lines::u16s::show(lent, q, out))
+    let p = emit::whole(rt, answer.number(), n, out);
+    let q = emit::byte(rt, b' ', p, out);
+    answer_lines::told(answer_lines::u16s::show(rt, lent, q, out))
 }

@@ -29,6 +29,7 @@ pub fn asked(line: &[u8]) -> bool {
 
 // The line's answer, where it is this request. The lists are those of an empty store.
 pub fn answer(
+    rt: HostRuntime,
     line: &[u8],
     s: Said,
     out: &mut [u8],
@@ -47,15 +48,16 @@ pub fn answer(
     }
     let f = request_fields::first_fault(line, b"nk");
     if f.reason != 0 {
-        return answer_lines::told(answer_lines::bad(f.word, f.reason, s.n, out));
+        return answer_lines::told(answer_lines::bad(rt, f.word, f.reason, s.n, out));
     }
     let from = calls::first(line);
     if !shapes::all_fit(line, from, call) {
-        return answer_lines::told(answer_lines::bad(3, b'c', s.n, out));
+        return answer_lines::told(answer_lines::bad(rt, 3, b'c', s.n, out));
     }
     let a: usize = 0;
     let k = slot_count(line, slots.len());
     answer_lines::told(made::all(
+        rt,
         line,
         from,
         call,

@@ -8,16 +8,17 @@ use filter_fields::Kind;
 use request_fields::{fields, u16s};
 
 // The number of a put's answer, the first blank line, the window size.
-fn show(built: Built, n: usize, out: &mut [u8]) -> usize {
-    let p = emit::whole(built.number(), n, out);
-    let q = emit::byte(b':', p, out);
-    let r = emit::whole(built.line(), q, out);
-    let s = emit::byte(b':', r, out);
-    emit::whole(built.window_size(), s, out)
+fn show(rt: HostRuntime, built: Built, n: usize, out: &mut [u8]) -> usize {
+    let p = emit::whole(rt, built.number(), n, out);
+    let q = emit::byte(rt, b':', p, out);
+    let r = emit::whole(rt, built.line(), q, out);
+    let s = emit::byte(rt, b':', r, out);
+    emit::whole(rt, built.window_size(), s, out)
 }
 
 // A put, with the room that it works in; nothing is said where the kind is no filter's, which no call has that was looked at.
 fn put(
+    rt: HostRuntime,
     call: &[u8],
     numbers: &mut [u32],
     slots: &mut [i32],
@@ -46,11 +47,12 @@ fn put(
         &mut firsts,
         &mut counts,
     );
-    show(built, n, out)
+    show(rt, built, n, out)
 }
 
 // The lists of `framed`, and nothing else: one call.
 fn pass_over(
+    rt: HostRuntime,
     call: &[u8],
     numbers: &[u32],
     slots: &[i32],
@@ -63,6 +65,7 @@ fn pass_over(
     let mut samples = [0u16; 131072];
     let mut lent = [0u16; 131072];
     framed(
+        rt,
         call,
         numbers,
         slots,
@@ -78,6 +81,7 @@ fn pass_over(
 
 // SAMPLES and NOUT, the last two fields of a pass.
 fn framed(
+    rt: HostRuntime,
     call: &[u8],
     numbers: &[u32],
     slots: &[i32],
@@ -93,6 +97,7 @@ fn framed(
     let l = u16s::read(call, 5, samples);
     let m = u16s::lend(call, 6, lent);
     pass(
+        rt,
         call,
         numbers,
         slots,
@@ -108,6 +113,7 @@ fn framed(
 
 // A pass: its number and the output.
 fn pass(
+    rt: HostRuntime,
     call: &[u8],
     numbers: &[u32],
     slots: &[i32],
@@ -132,13 +138,14 @@ fn pass(
         fields::whole(call, 4),
         lent,
     );
-    let p = emit::whole(answer.number(), n, out);
-    let q = emit::byte(b':', p, out);
-    answer_lines::u16s::show(lent, q, out)
+    let p = emit::whole(rt, answer.number(), n, out);
+    let q = emit::byte(rt, b':', p, out);
+    answer_lines::u16s::show(rt, lent, q, out)
 }
 
 // One call, by its letter.
 fn one(
+    rt: HostRuntime,
     call: &[u8],
     numbers: &mut [u32],
     slots: &mut [i32],
@@ -158,16 +165,17 @@ fn one(
             fields::whole(call, 1),
             fields::whole(call, 2),
         );
-        return emit::whole(answer.number(), n, out);
+        return emit::whole(rt, answer.number(), n, out);
     }
     if fields::is(call, 0, b"u") {
-        return pass_over(call, numbers, slots, starts, sizes, excesses, n, out);
+        return pass_over(rt, call, numbers, slots, starts, sizes, excesses, n, out);
     }
-    put(call, numbers, slots, starts, sizes, excesses, n, out)
+    put(rt, call, numbers, slots, starts, sizes, excesses, n, out)
 }
 
 // All of them from the place on.
 pub(crate) fn all(
+    rt: HostRuntime,
     line: &[u8],
     from: usize,
     call: &mut [u8],
@@ -187,11 +195,21 @@ pub(crate) fn all(
     while at <= line.len() {
         let e = calls::end(line, at);
         let k = calls::copied(line, at, e, call);
-        p = one(&call[a..k], numbers, slots, starts, sizes, excesses, p, out);
+        p = one(
+            rt,
+            &call[a..k],
+            numbers,
+            slots,
+            starts,
+            sizes,
+            excesses,
+            p,
+            out,
+        );
         if line.len() <= e {
             return p;
         }
-        p = emit::byte(b'/', p, out);
+        p = emit::byte(rt, b'/', p, out);
         at = calls::behind(line, e);
     }
     p

@@ -7,6 +7,7 @@ use windows::DisplayLine;
 
 // The line's answer, where it is this request.
 pub fn answer(
+    rt: HostRuntime,
     line: &[u8],
     s: Said,
     out: &mut [u8],
@@ -22,7 +23,7 @@ pub fn answer(
     }
     if fields::is(line, 0, b"story") {
         return of_line(
-            line, s.n, out, weights, starts, sizes, excesses, samples, room,
+            rt, line, s.n, out, weights, starts, sizes, excesses, samples, room,
         );
     }
     s
@@ -30,6 +31,7 @@ pub fn answer(
 
 // The line's answer.
 fn of_line(
+    rt: HostRuntime,
     line: &[u8],
     n: usize,
     out: &mut [u8],
@@ -42,7 +44,7 @@ fn of_line(
 ) -> Said {
     let f = request_fields::first_fault(line, b"wwwwJWWQHwwm");
     if f.reason != 0 {
-        return answer_lines::told(answer_lines::bad(f.word, f.reason, n, out));
+        return answer_lines::told(answer_lines::bad(rt, f.word, f.reason, n, out));
     }
     let a: usize = 0;
     let slots = i32s::read(line, 5, weights);
@@ -50,6 +52,7 @@ fn of_line(
     let j = u32s::read(line, 7, sizes);
     let k = i64s::read(line, 8, excesses);
     framed(
+        rt,
         line,
         &weights[a..slots],
         &starts[a..i],
@@ -64,6 +67,7 @@ fn of_line(
 
 // SAMPLES, and ROOM, the last word.
 fn framed(
+    rt: HostRuntime,
     line: &[u8],
     weights: &[i32],
     starts: &[u32],
@@ -78,6 +82,7 @@ fn framed(
     let l = u16s::read(line, 9, samples);
     let m = u8s::lend(line, 12, room);
     tell(
+        rt,
         line,
         weights,
         starts,
@@ -92,6 +97,7 @@ fn framed(
 
 // The story itself; the number, the length and the lent list's bytes.
 fn tell(
+    rt: HostRuntime,
     line: &[u8],
     weights: &[i32],
     starts: &[u32],
@@ -116,9 +122,9 @@ fn tell(
         fields::whole(line, 11),
         room,
     );
-    let p = emit::whole(answer.number(), n, out);
-    let q = emit::byte(b' ', p, out);
-    let r = emit::number(answer.length(), q, out);
-    let t = emit::byte(b' ', r, out);
-    answer_lines::told(answer_lines::u8s::show_hex(room, t, out))
+    let p = emit::whole(rt, answer.number(), n, out);
+    let q = emit::byte(rt, b' ', p, out);
+    let r = emit::number(rt, answer.length(), q, out);
+    let t = emit::byte(rt, b' ', r, out);
+    answer_lines::told(answer_lines::u8s::show_hex(rt, room, t, out))
 }

@@ -12,6 +12,7 @@ use request_fields::{f64s, fields, u32s};
 
 // The line's answer, where it is this request.
 pub fn answer(
+    rt: HostRuntime,
     line: &[u8],
     s: Said,
     out: &mut [u8],
@@ -27,13 +28,14 @@ pub fn answer(
     }
     let f = request_fields::first_fault(line, b"kzzwwwxxxxnnn");
     if f.reason != 0 {
-        return answer_lines::told(answer_lines::bad(f.word, f.reason, s.n, out));
+        return answer_lines::told(answer_lines::bad(rt, f.word, f.reason, s.n, out));
     }
     let kind_read = filter_fields::kind_at(line, 1);
     let Kind::Is(kind) = kind_read else {
-        return answer_lines::told(answer_lines::bad(2, b'k', s.n, out));
+        return answer_lines::told(answer_lines::bad(rt, 2, b'k', s.n, out));
     };
     lists(
+        rt,
         request_at(kind, line, 2),
         line,
         s.n,
@@ -46,6 +48,7 @@ pub fn answer(
 
 // The lists are lent as long as the last three words say.
 fn lists(
+    rt: HostRuntime,
     r: Request,
     line: &[u8],
     n: usize,
@@ -59,6 +62,7 @@ fn lists(
     let j = u32s::lend(line, 12, starts);
     let k = u32s::lend(line, 13, sizes);
     build(
+        rt,
         r,
         &mut slots[a..i],
         &mut starts[a..j],
@@ -102,6 +106,7 @@ fn axis_of(down: bool) -> Axis {
 
 // The builder itself.
 fn build(
+    rt: HostRuntime,
     r: Request,
     slots: &mut [f64],
     starts: &mut [u32],
@@ -110,11 +115,12 @@ fn build(
     out: &mut [u8],
 ) -> Said {
     let built = coefficients::build(r, slots, starts, sizes);
-    answer_lines::told(show(built, slots, starts, sizes, n, out))
+    answer_lines::told(show(rt, built, slots, starts, sizes, n, out))
 }
 
 // The three numbers and the three lists.
 fn show(
+    rt: HostRuntime,
     built: Built,
     slots: &[f64],
     starts: &[u32],
@@ -122,18 +128,18 @@ fn show(
     n: usize,
     out: &mut [u8],
 ) -> usize {
-    let p = show_built(built, n, out);
-    let q = emit::byte(b' ', p, out);
-    let s = answer_lines::f64s::show(slots, q, out);
-    let t = emit::byte(b' ', s, out);
-    let u = answer_lines::u32s::show(starts, t, out);
-    let v = emit::byte(b' ', u, out);
-    answer_lines::u32s::show(sizes, v, out)
+    let p = show_built(rt, built, n, out);
+    let q = emit::byte(rt, b' ', p, out);
+    let s = answer_lines::f64s::show(rt, slots, q, out);
+    let t = emit::byte(rt, b' ', s, out);
+    let u = answer_lines::u32s::show(rt, starts, t, out);
+    let v = emit::byte(rt, b' ', u, out);
+    answer_lines::u32s::show(rt, sizes, v, out)
 }
 
 // The number of the answer, the first blank line, the window size.
-fn show_built(built: Built, n: usize, out: &mut [u8]) -> usize {
-    let p = emit::whole(built.number(), n, out);
-    let q = emit::next_whole(built.line(), p, out);
-    emit::next_whole(built.window_size(), q, out)
+fn show_built(rt: HostRuntime, built: Built, n: usize, out: &mut [u8]) -> usize {
+    let p = emit::whole(rt, built.number(), n, out);
+    let q = emit::next_whole(rt, built.line(), p, out);
+    emit::next_whole(rt, built.window_size(), q, out)
 }

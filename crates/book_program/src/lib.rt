@@ -15,49 +15,49 @@ enum Filed {
 }
 
 // Answers the program's arguments, a name of a file each. The text stands here, apart from what looks at it.
-pub fn run() {
+pub fn run(rt: HostRuntime) {
     let mut text = [0u8; 524288];
-    let count = os::arg_count();
+    let count = program_streams::argument_count(rt);
     if count < 2 {
-        return sheet_files::missing();
+        return sheet_files::missing(rt);
     }
-    all(count, &mut text);
+    all(rt, count, sheet_files::room(&mut text));
 }
 
 // The report of the files from argument 1 on, up to the first bad sheet.
-fn all(count: usize, text: &mut [u8]) {
+fn all(rt: HostRuntime, count: usize, text: &mut [u8]) {
     let mut r = EMPTY;
     let mut i: usize = 1;
     while i < count {
-        let got = one(i, text);
+        let got = one(rt, i, text);
         let Filed::Read(next) = got else {
             return;
         };
         r = join(r, next);
         if next.stopped != 0 {
-            return told::report(r);
+            return told::report(rt, r);
         }
         i += 1;
     }
-    told::report(r);
+    told::report(rt, r);
 }
 
 // The report of the file that argument i names.
-fn one(i: usize, text: &mut [u8]) -> Filed {
+fn one(rt: HostRuntime, i: usize, text: &mut [u8]) -> Filed {
     let a: usize = 0;
-    let got = sheet_files::text_of(i, text);
+    let got = sheet_files::text_of(rt, i, text);
     let n = got.n;
     if !got.whole {
         return Filed::Unread;
     }
-    Filed::Read(judged(i, &text[a..n]))
+    Filed::Read(judged(rt, i, &text[a..n]))
 }
 
 // The report of its text. Of a bad sheet the place is said at once, while the text is there.
-fn judged(i: usize, text: &[u8]) -> Report {
+fn judged(rt: HostRuntime, i: usize, text: &[u8]) -> Report {
     let r = book::book(text);
     if r.stopped != 0 {
-        sheet_files::stopped(i, text, r.byte);
+        sheet_files::stopped(rt, i, text, r.byte);
     }
     r
 }

@@ -4,14 +4,14 @@ use sheet::Sheet;
 use sheet_files::streams::out;
 
 // The seven lines; at most 188 bytes, so that there is room.
-pub(crate) fn report(r: Report) {
+pub(crate) fn report(rt: HostRuntime, r: Report) {
     let mut room = [0u8; 256];
     let answer = book_text::write_report(r, &mut room);
-    show(answer, &room);
+    show(rt, answer, &room);
 }
 
 // The first bytes of the list, which are the report.
-fn show(answer: Sheet, room: &[u8]) {
+fn show(rt: HostRuntime, answer: Sheet, room: &[u8]) {
     let a: usize = 0;
     let Sheet::Written(length) = answer else {
         return;
@@ -20,5 +20,5 @@ fn show(answer: Sheet, room: &[u8]) {
     if room.len() < n {
         return;
     }
-    out(&room[a..n]);
+    out(rt, &room[a..n]);
 }

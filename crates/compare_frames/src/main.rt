@@ -7,38 +7,43 @@ mod said;
 mod search;
 
 use frame_files::{Bytes, Whole, bytes_in};
+use std::fs::File;
 
 // The two parts that are compared stand here, apart from what looks at them.
-fn main() {
+fn main(rt: HostRuntime) {
     let mut a = [0u8; 65536];
     let mut b = [0u8; 65536];
-    let n = os::arg_count();
+    let n = program_streams::argument_count(rt);
     if n < 4 {
-        return said::missing();
+        return said::missing(rt);
     }
-    answer(n < 5, &mut a, &mut b);
+    answer(rt, n < 5, &mut a, &mut b);
 }
 
 // The row length, the two files and their lengths.
-fn answer(wide: bool, a: &mut [u8], b: &mut [u8]) {
-    let word = frame_files::whole_at(3);
+fn answer(rt: HostRuntime, wide: bool, a: &mut [u8], b: &mut [u8]) {
+    let word = frame_files::whole_at(rt, 3);
     let Whole::Is(row) = word else {
-        return frame_files::no_number(b"row", b"ROW");
+        return frame_files::no_number(rt, b"row", b"ROW");
     };
-    let one = frame_files::opened(1);
-    let long = frame_files::length(one);
+    let Some(one) = frame_files::opened(rt, 1) else {
+        return said::unreadable(rt);
+    };
+    let long = frame_files::length(&one);
     let Bytes::Are(bytes) = long else {
-        return said::unreadable();
+        return said::unreadable(rt);
     };
-    let two = frame_files::opened(2);
-    let other = frame_files::length(two);
+    let Some(two) = frame_files::opened(rt, 2) else {
+        return said::unreadable(rt);
+    };
+    let other = frame_files::length(&two);
     let Bytes::Are(others) = other else {
-        return said::unreadable();
+        return said::unreadable(rt);
     };
     if bytes != others {
-        return said::lengths(bytes, others);
+        return said::lengths(rt, bytes, others);
     }
-    rows(one, two, row, bytes, wide, a, b);
+    rows(rt, &one, &two, row, bytes, wide, a, b);
 }
 
 // How many samples so many bytes are.
@@ -50,18 +55,27 @@ fn samples_in(bytes: u64, wide: bool) -> u64 {
 }
 
 // Whole rows are compared.
-fn rows(one: i32, two: i32, row: u32, bytes: u64, wide: bool, a: &mut [u8], b: &mut [u8]) {
+fn rows(
+    rt: HostRuntime,
+    one: &File,
+    two: &File,
+    row: u32,
+    bytes: u64,
+    wide: bool,
+    a: &mut [u8],
+    b: &mut [u8],
+) {
     let each = bytes_in(row, wide);
     if each == 0 {
-        return said::rows(bytes, row);
+        return said::rows(rt, bytes, row);
     }
     if bytes % each != 0 {
-        return said::rows(bytes, row);
+        return said::rows(rt, bytes, row);
     }
     let samples = samples_in(bytes, wide);
     let f = search::search(one, two, samples, wide, a, b);
     if f.failed {
-        return said::unreadable();
+        return said::unreadable(rt);
     }
-    said::found(f, samples, row as u64);
+    said::found(rt, f, samples, row as u64);
 }

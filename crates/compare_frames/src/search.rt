@@ -3,7 +3,8 @@ ghost use Rattle.std.specs.Prelude.{◌+◌, ◌*◌, ◌≤◌, length};
 
 use crate::found::{Found, nothing, sum};
 use frame_files::{bytes_in, value_of};
-use libc::SEEK_SET;
+use std::fs::File;
+use std::io::{Seek, SeekFrom};
 
 // Sample k of a part.
 fn sample(part: &[u8], k: usize, wide: bool) -> u16
@@ -33,9 +34,10 @@ fn more(found: Found, from: u64, n: usize, wide: bool, a: &[u8], b: &[u8]) -> Fo
 }
 
 // The next bytes of a file fill the list; whether there were so many.
-fn filled(fd: i32, part: &mut [u8]) -> bool {
+fn filled(file: &File, part: &mut [u8]) -> bool {
+    let mut from = file;
     let n = part.len();
-    io::read_full(fd, part) == n
+    program_streams::read_full(&mut from, part) == n
 }
 
 // How many samples the next part has.
@@ -49,7 +51,7 @@ fn next(left: u64) -> u32
 }
 
 // The next part of both files; whether both had it.
-fn both(one: i32, two: i32, n: u32, wide: bool, a: &mut [u8], b: &mut [u8]) -> bool {
+fn both(one: &File, two: &File, n: u32, wide: bool, a: &mut [u8], b: &mut [u8]) -> bool {
     let z: usize = 0;
     let e = bytes_in(n, wide) as usize;
     if a.len() < e {
@@ -64,18 +66,24 @@ fn both(one: i32, two: i32, n: u32, wide: bool, a: &mut [u8], b: &mut [u8]) -> b
     filled(two, &mut b[z..e])
 }
 
+// A file from its beginning; whether it has such a place.
+fn at_first(file: &File) -> bool {
+    let mut at = file;
+    at.seek(SeekFrom::Start(0)).is_ok()
+}
+
 // Both files from their beginnings; whether they have such a place.
-fn rewound(one: i32, two: i32) -> bool {
-    if libc::lseek(one, 0, SEEK_SET) < 0 {
+fn rewound(one: &File, two: &File) -> bool {
+    if !at_first(one) {
         return false;
     }
-    !(libc::lseek(two, 0, SEEK_SET) < 0)
+    at_first(two)
 }
 
 // All of them.
 pub(crate) fn search(
-    one: i32,
-    two: i32,
+    one: &File,
+    two: &File,
     samples: u64,
     wide: bool,
     a: &mut [u8],

@@ -8,27 +8,27 @@ mod picture;
 use frame_files::Whole;
 
 // One line's samples and bytes stand here, apart from what fills them.
-fn main() {
+fn main(rt: HostRuntime) {
     let mut samples = [0u16; 32768];
     let mut bytes = [0u8; 65536];
-    sized(&mut samples, &mut bytes);
+    sized(rt, &mut samples, &mut bytes);
 }
 
 // The two words.
-fn sized(samples: &mut [u16], bytes: &mut [u8]) {
-    let first = frame_files::whole_at(1);
+fn sized(rt: HostRuntime, samples: &mut [u16], bytes: &mut [u8]) {
+    let first = frame_files::whole_at(rt, 1);
     let Whole::Is(lines) = first else {
-        return frame_files::no_number(b"lines", b"LINES");
+        return frame_files::no_number(rt, b"lines", b"LINES");
     };
-    let second = frame_files::whole_at(2);
+    let second = frame_files::whole_at(rt, 2);
     let Whole::Is(row) = second else {
-        return frame_files::no_number(b"row", b"ROW");
+        return frame_files::no_number(rt, b"row", b"ROW");
     };
-    cut(lines, row, samples, bytes);
+    cut(rt, lines, row, samples, bytes);
 }
 
 // The parts of the two lists that a line has; of rows that are longer nothing is made.
-fn cut(lines: u32, row: u32, samples: &mut [u16], bytes: &mut [u8]) {
+fn cut(rt: HostRuntime, lines: u32, row: u32, samples: &mut [u16], bytes: &mut [u8]) {
     let a: usize = 0;
     let n = row as usize;
     let e = n * 2;
@@ -38,5 +38,5 @@ fn cut(lines: u32, row: u32, samples: &mut [u16], bytes: &mut [u8]) {
     if bytes.len() < e {
         return;
     }
-    picture::lines(lines, &mut samples[a..n], &mut bytes[a..e]);
+    picture::lines(rt, lines, &mut samples[a..n], &mut bytes[a..e]);
 }

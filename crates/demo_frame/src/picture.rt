@@ -1,7 +1,7 @@
 // The picture, line by line.
 ghost use Rattle.std.specs.Prelude.{◌≤◌};
 
-use libc::STDOUT_FILENO;
+use std::io::{Error, Write};
 
 // Where the noise begins.
 const SEED: u64 = 20210;
@@ -84,19 +84,19 @@ fn line(i: u32, lines: u32, first: u64, samples: &mut [u16]) -> u64 {
 }
 
 // What the system said of the write stands behind it.
-fn unwritten() {
-    os::fail(b"the frame cannot be written");
+fn unwritten(rt: HostRuntime, why: Error) {
+    program_streams::failed(rt, b"the frame cannot be written", why);
 }
 
 // All lines, each written as soon as it is made.
-pub(crate) fn lines(lines: u32, samples: &mut [u16], bytes: &mut [u8]) {
+pub(crate) fn lines(rt: HostRuntime, lines: u32, samples: &mut [u16], bytes: &mut [u8]) {
     let mut seed = SEED;
     let mut i: u32 = 0;
     while i < lines {
         seed = line(i, lines, seed, samples);
         frame_files::encode(samples, bytes);
-        if !io::write_all(STDOUT_FILENO, bytes) {
-            return unwritten();
+        if let Err(why) = Write::write_all(&mut rt.stdout(), bytes) {
+            return unwritten(rt, why);
         }
         i += 1;
     }

@@ -16,9 +16,9 @@ fn narrowed(x: u64) -> u32 {
 }
 
 // Argument i as a whole number.
-pub fn whole_at(i: usize) -> Whole {
+pub fn whole_at(rt: HostRuntime, i: usize) -> Whole {
     let mut word = [0u8; 64];
-    let n = os::arg(i, &mut word);
+    let n = program_streams::argument(rt, i, &mut word);
     let read = numerals::read_number(10, &word, 0, n, 0xffff_ffff);
     match read {
         Number::Is(x) => Whole::Is(narrowed(x)),

@@ -1,9 +1,9 @@
-// A frame's file: its descriptor, its length, and the row length that it has for so many camera lines.
+// A frame's file: the file itself, its length, and the row length that it has for so many camera lines.
 ghost use Rattle.std.specs.Prelude.{◌≤◌};
 
 use crate::said;
-use answer_lines::size;
-use libc::SEEK_END;
+use std::fs::File;
+use std::io::{Seek, SeekFrom};
 
 // How many bytes a file has; or it cannot be read by places.
 #[derive(Drop)]
@@ -12,23 +12,18 @@ pub enum Bytes {
     Failed,
 }
 
-// The descriptor of the file that argument i names, below 0 where it cannot be opened.
-pub fn opened(i: usize) -> i32 {
-    let mut name = [0u8; 4096];
-    let k = os::arg(i, &mut name);
-    os::open_read(&name[..k])
+// The file that argument i names, where it can be opened.
+pub fn opened(rt: HostRuntime, i: usize) -> Option<File> {
+    program_streams::opened(rt, i).ok()
 }
 
 // The length of an opened file.
-pub fn length(fd: i32) -> Bytes {
-    if fd < 0 {
-        return Bytes::Failed;
+pub fn length(file: &File) -> Bytes {
+    let mut at = file;
+    match at.seek(SeekFrom::End(0)) {
+        Ok(end) => Bytes::Are(end),
+        Err(_) => Bytes::Failed,
     }
-    let end = libc::lseek(fd, 0, SEEK_END);
-    if end < 0 {
-        return Bytes::Failed;
-    }
-    Bytes::Are(size(end))
 }
 
 // The bytes of so many samples, two each where they are wide.
@@ -54,19 +49,19 @@ fn row_of(bytes: u64, lines: u32, wide: bool) -> u64 {
 }
 
 // The row length of the frame that argument 2 names, opened, for so many lines; where it is 0 there is none, and why has been said.
-pub fn row(fd: i32, lines: u32, wide: bool) -> u32 {
-    let long = length(fd);
+pub fn row(rt: HostRuntime, file: &File, lines: u32, wide: bool) -> u32 {
+    let long = length(file);
     let Bytes::Are(bytes) = long else {
-        said::no_frame();
+        said::no_frame(rt);
         return 0;
     };
     let row = row_of(bytes, lines, wide);
     if row == 0 {
-        said::misfit(bytes, lines, wide);
+        said::misfit(rt, bytes, lines, wide);
         return 0;
     }
     if 32768 < row {
-        said::long_rows(row);
+        said::long_rows(rt, row);
         return 0;
     }
     row as u32

@@ -11,12 +11,12 @@ pub(crate) struct Range {
 }
 
 // Whether there are two words, or four; where there are not, that has been said.
-pub(crate) fn counted() -> bool {
-    let n = os::arg_count();
+pub(crate) fn counted(rt: HostRuntime) -> bool {
+    let n = program_streams::argument_count(rt);
     if (n == 3) | (n == 5) {
         return true;
     }
-    said::words();
+    said::words(rt);
     false
 }
 
@@ -29,19 +29,19 @@ fn none() -> Range {
 }
 
 // The columns from FIRST on, COUNT of them.
-fn ranged(row: u32) -> Range {
-    let first = whole_at(3);
+fn ranged(rt: HostRuntime, row: u32) -> Range {
+    let first = whole_at(rt, 3);
     let Whole::Is(f) = first else {
-        no_number(b"first", b"FIRST");
+        no_number(rt, b"first", b"FIRST");
         return none();
     };
-    let count = whole_at(4);
+    let count = whole_at(rt, 4);
     let Whole::Is(n) = count else {
-        no_number(b"count", b"COUNT");
+        no_number(rt, b"count", b"COUNT");
         return none();
     };
     if (row as u64) < f as u64 + n as u64 {
-        said::outside(f, n, row);
+        said::outside(rt, f, n, row);
         return none();
     }
     Range {
@@ -52,16 +52,16 @@ fn ranged(row: u32) -> Range {
 }
 
 // All columns where no words name some.
-pub(crate) fn asked(row: u32) -> Range {
+pub(crate) fn asked(rt: HostRuntime, row: u32) -> Range {
     if row == 0 {
         return none();
     }
-    if os::arg_count() < 5 {
+    if program_streams::argument_count(rt) < 5 {
         return Range {
             first: 0,
             count: row,
             good: true,
         };
     }
-    ranged(row)
+    ranged(rt, row)
 }

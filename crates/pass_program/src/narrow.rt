@@ -1,4 +1,5 @@
 // The u8 pass, strip by strip. A byte is a sample, so nothing is turned into anything.
+use crate::places::Stored;
 use crate::plan::Plan;
 use crate::said::done;
 use crate::{places, said};
@@ -6,15 +7,32 @@ use frame_files::times;
 use vertical_u8::vert_convolution_u8;
 
 // A strip's samples, and those that come out.
-pub(crate) fn room(p: Plan, weights: &[i16], starts: &[u32], sizes: &[u32], excesses: &[i64]) {
+pub(crate) fn room(
+    rt: HostRuntime,
+    p: Plan<'_>,
+    weights: &[i16],
+    starts: &[u32],
+    sizes: &[u32],
+    excesses: &[i64],
+) {
     let mut samples = [0u8; 524288];
     let mut out = [0u8; 524288];
-    strips(p, weights, starts, sizes, excesses, &mut samples, &mut out);
+    strips(
+        rt,
+        p,
+        weights,
+        starts,
+        sizes,
+        excesses,
+        sheet_files::room(&mut samples),
+        sheet_files::room(&mut out),
+    );
 }
 
 // One strip after the other, until the last or until one fails.
 fn strips(
-    p: Plan,
+    rt: HostRuntime,
+    p: Plan<'_>,
     weights: &[i16],
     starts: &[u32],
     sizes: &[u32],
@@ -23,23 +41,24 @@ fn strips(
     out: &mut [u8],
 ) {
     let mut at: u32 = 0;
-    said::progress(at, p.count);
+    said::progress(rt, at, p.count);
     while at < p.count {
         let n = p.next(at);
         if n == 0 {
             return;
         }
-        if !strip(p, at, n, weights, starts, sizes, excesses, samples, out) {
+        if !strip(rt, p, at, n, weights, starts, sizes, excesses, samples, out) {
             return;
         }
         at += n;
-        said::progress(at, p.count);
+        said::progress(rt, at, p.count);
     }
 }
 
 // One strip, read, passed and written; whether that could be done, and where it could not, why has been said.
 fn strip(
-    p: Plan,
+    rt: HostRuntime,
+    p: Plan<'_>,
     at: u32,
     n: u32,
     weights: &[i16],
@@ -58,8 +77,8 @@ fn strip(
     if out.len() < k {
         return false;
     }
-    if !places::read(p.fd, p.taken(at, n), &mut samples[a..m]) {
-        frame_files::no_frame();
+    if !places::read(p.file, p.taken(at, n), &mut samples[a..m]) {
+        frame_files::no_frame(rt);
         return false;
     }
     let answer = vert_convolution_u8(
@@ -73,12 +92,19 @@ fn strip(
         p.precision,
         &mut out[a..k],
     );
-    if !done(answer) {
+    if !done(rt, answer) {
         return false;
     }
-    if !places::write(p.given(at, n), &out[a..k]) {
-        said::unwritten();
+    let given = p.given(at, n);
+    let put = places::in_order(
+        rt,
+        places::write(p.to, given, &out[a..k]),
+        given,
+        &out[a..k],
+    );
+    let Stored::Whole = put else {
+        said::unwritten(rt, put);
         return false;
-    }
+    };
     true
 }

@@ -4,12 +4,15 @@ ghost use Rattle.std.specs.Prelude.{◌-◌, ◌≤◌};
 use crate::columns;
 use crate::places::Strip;
 use sheet_scan::Sizes;
+use std::fs::File;
+use std::io;
 use vertical::Frame;
 
-// A pass: the sheet's numbers, the frame's descriptor and row length, the columns asked for, and how many of them one strip has. There is none where the row length is 0.
-#[derive(Drop)]
-pub(crate) struct Plan {
-    pub(crate) fd: i32,
+// A pass: the frame's file and the one that goes out, the sheet's numbers, the row length, the columns asked for, and how many of them one strip has. There is none where the row length is 0.
+#[derive(Clone, Copy)]
+pub(crate) struct Plan<'a> {
+    pub(crate) file: &'a File,
+    pub(crate) to: &'a io::Result<File>,
     pub(crate) lines: u32,
     pub(crate) windows: u32,
     pub(crate) window_size: u32,
@@ -50,12 +53,19 @@ fn kept(row: u32, good: bool) -> u32 {
 }
 
 // The pass that the words ask for with such a sheet; where it has no row, why has been said.
-pub(crate) fn asked(head: Sizes, precision: u32, wide: bool) -> Plan {
-    let fd = frame_files::opened(2);
-    let row = frame_files::row(fd, head.lines, wide);
-    let c = columns::asked(row);
+pub(crate) fn asked<'a>(
+    rt: HostRuntime,
+    file: &'a File,
+    to: &'a io::Result<File>,
+    head: Sizes,
+    precision: u32,
+    wide: bool,
+) -> Plan<'a> {
+    let row = frame_files::row(rt, file, head.lines, wide);
+    let c = columns::asked(rt, row);
     Plan {
-        fd: fd,
+        file: file,
+        to: to,
         lines: head.lines,
         windows: head.windows,
         window_size: head.window_size,
@@ -68,10 +78,10 @@ pub(crate) fn asked(head: Sizes, precision: u32, wide: bool) -> Plan {
     }
 }
 
-impl Plan {
+impl Plan<'_> {
     // How many columns the strip has that begins behind so many.
     pub(crate) fn next(self, at: u32) -> u32
-        ensures { result ≤ self.count - at }
+        ensures { result ≤ self.entry.count - at }
     {
         if self.count <= at {
             return 0;

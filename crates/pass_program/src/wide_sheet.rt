@@ -4,18 +4,31 @@ use crate::plan::Plan;
 use crate::wide::room;
 use frame_files::times;
 use reader::Reading;
+use sheet_scan::Sizes;
+use std::fs::File;
+use std::io;
 
 // The lists of `read`, and nothing else: one call. They are those of `read_back`.
-pub(crate) fn judge(text: &[u8]) {
+pub(crate) fn judge(rt: HostRuntime, to: &io::Result<File>, text: &[u8]) {
     let mut weights = [0i32; 131072];
     let mut starts = [0u32; 8192];
     let mut sizes = [0u32; 8192];
     let mut excesses = [0i64; 8192];
-    read(text, &mut weights, &mut starts, &mut sizes, &mut excesses);
+    read(
+        rt,
+        to,
+        text,
+        &mut weights,
+        &mut starts,
+        &mut sizes,
+        &mut excesses,
+    );
 }
 
 // The sheet, read, and the pass that is asked for with it.
 fn read(
+    rt: HostRuntime,
+    to: &io::Result<File>,
     text: &[u8],
     weights: &mut [i32],
     starts: &mut [u32],
@@ -24,20 +37,55 @@ fn read(
 ) {
     let answer = reader::read_sheet(text, weights, starts, sizes, excesses);
     match answer {
-        Reading::Loaded(head, store) => listed(
-            plan::asked(head, store.precision, true),
+        Reading::Loaded(head, store) => framed(
+            rt,
+            to,
+            head,
+            store.precision,
             weights,
             starts,
             sizes,
             excesses,
         ),
-        Reading::TooFew => sheet_files::too_large(),
-        Reading::NotASheet(byte) => sheet_files::refused(text, byte),
+        Reading::TooFew => sheet_files::too_large(rt),
+        Reading::NotASheet(byte) => sheet_files::refused(rt, text, byte),
     }
 }
 
+// The frame's file, opened, and the pass over it.
+fn framed(
+    rt: HostRuntime,
+    to: &io::Result<File>,
+    head: Sizes,
+    precision: u32,
+    weights: &[i32],
+    starts: &[u32],
+    sizes: &[u32],
+    excesses: &[i64],
+) {
+    let opened = frame_files::opened(rt, 2);
+    let Some(file) = opened else {
+        return frame_files::no_frame(rt);
+    };
+    listed(
+        rt,
+        plan::asked(rt, &file, to, head, precision, true),
+        weights,
+        starts,
+        sizes,
+        excesses,
+    );
+}
+
 // The set's own part of each list.
-fn listed(p: Plan, weights: &[i32], starts: &[u32], sizes: &[u32], excesses: &[i64]) {
+fn listed(
+    rt: HostRuntime,
+    p: Plan<'_>,
+    weights: &[i32],
+    starts: &[u32],
+    sizes: &[u32],
+    excesses: &[i64],
+) {
     let a: usize = 0;
     let n = p.windows as usize;
     let m = times(p.windows, p.window_size);
@@ -57,6 +105,7 @@ fn listed(p: Plan, weights: &[i32], starts: &[u32], sizes: &[u32], excesses: &[i
         return;
     }
     room(
+        rt,
         p,
         &weights[a..m],
         &starts[a..n],

@@ -1,6 +1,6 @@
 // Prints the weight sheet that its arguments ask for (docs/SHEET.md).
 #![tactic(auto)]
 
-fn main() {
-    sheet_program::run();
+fn main(rt: HostRuntime) {
+    sheet_program::run(rt);
 }

@@ -1,6 +1,6 @@
 // `print_sheet` with words: a decimal edge, an extent by its bits, a filter that does not adapt, the 16-bit store.
 #![tactic(auto)]
 
-fn main() {
-    sheet_program::run();
+fn main(rt: HostRuntime) {
+    sheet_program::run(rt);
 }

@@ -1,6 +1,6 @@
 // `read_back` with a sheet that has a minus zero: the place, and a mark under it.
 #![tactic(auto)]
 
-fn main() {
-    read_program::run();
+fn main(rt: HostRuntime) {
+    read_program::run(rt);
 }

@@ -1,6 +1,6 @@
 // `read_back` with a file that is not there.
 #![tactic(auto)]
 
-fn main() {
-    read_program::run();
+fn main(rt: HostRuntime) {
+    read_program::run(rt);
 }

@@ -8,32 +8,40 @@ mod told;
 use reader::Reading;
 
 // Answers the program's one argument, a file's name. The text stands here, apart from what looks at it.
-pub fn run() {
+pub fn run(rt: HostRuntime) {
     let mut text = [0u8; 524288];
-    answer(&mut text);
+    answer(rt, sheet_files::room(&mut text));
 }
 
 // Reads the file, and what it has.
-fn answer(text: &mut [u8]) {
+fn answer(rt: HostRuntime, text: &mut [u8]) {
     let a: usize = 0;
-    let got = sheet_files::text(text);
+    let got = sheet_files::text(rt, text);
     let n = got.n;
     if got.whole {
-        judge(&text[a..n]);
+        judge(rt, &text[a..n]);
     }
 }
 
 // The lists of `read`, and nothing else: one call. Every set that the builder makes has at most 57,344 slots and 8,192 windows.
-fn judge(text: &[u8]) {
+fn judge(rt: HostRuntime, text: &[u8]) {
     let mut weights = [0i32; 131072];
     let mut starts = [0u32; 8192];
     let mut sizes = [0u32; 8192];
     let mut excesses = [0i64; 8192];
-    read(text, &mut weights, &mut starts, &mut sizes, &mut excesses);
+    read(
+        rt,
+        text,
+        &mut weights,
+        &mut starts,
+        &mut sizes,
+        &mut excesses,
+    );
 }
 
 // The sheet, read and told.
 fn read(
+    rt: HostRuntime,
     text: &[u8],
     weights: &mut [i32],
     starts: &mut [u32],
@@ -42,8 +50,8 @@ fn read(
 ) {
     let answer = reader::read_sheet(text, weights, starts, sizes, excesses);
     match answer {
-        Reading::Loaded(head, store) => told::sheet(head, store, starts, sizes, excesses),
-        Reading::TooFew => sheet_files::too_large(),
-        Reading::NotASheet(byte) => sheet_files::refused(text, byte),
+        Reading::Loaded(head, store) => told::sheet(rt, head, store, starts, sizes, excesses),
+        Reading::TooFew => sheet_files::too_large(rt),
+        Reading::NotASheet(byte) => sheet_files::refused(rt, text, byte),
     }
 }

@@ -7,6 +7,7 @@ use sheet_scan::{Sizes, StoreLines};
 
 // The whole of it.
 pub(crate) fn sheet(
+    rt: HostRuntime,
     head: Sizes,
     store: StoreLines,
     starts: &[u32],
@@ -14,18 +15,20 @@ pub(crate) fn sheet(
     excesses: &[i64],
 ) {
     let kind = head.kind;
-    out(b"filter ");
-    name(kind);
-    said(b", camera lines ", head.lines);
-    said(b", display lines ", head.windows);
-    said(b"\nwindow size ", head.window_size);
-    said(b", store ", store.bits);
+    out(rt, b"filter ");
+    name(rt, kind);
+    said(rt, b", camera lines ", head.lines);
+    said(rt, b", display lines ", head.windows);
+    said(rt, b"\nwindow size ", head.window_size);
+    said(rt, b", store ", store.bits);
     said(
+        rt,
         b" bits; a weight stands for itself divided by 2^",
         store.precision,
     );
-    out(b"\n");
+    out(rt, b"\n");
     windows(
+        rt,
         head.windows as usize,
         store.precision,
         starts,
@@ -35,23 +38,30 @@ pub(crate) fn sheet(
 }
 
 // Words and a number.
-fn said(words: &[u8], n: u32) {
-    out(words);
-    out_number(n as u64);
+fn said(rt: HostRuntime, words: &[u8], n: u32) {
+    out(rt, words);
+    out_number(rt, n as u64);
 }
 
 // A filter's name.
-fn name(kind: FilterType) {
+fn name(rt: HostRuntime, kind: FilterType) {
     match kind {
-        FilterType::Box => out(&keys::BOX),
-        FilterType::Bilinear => out(&keys::BILINEAR),
-        FilterType::CatmullRom => out(&keys::CATMULL_ROM),
-        FilterType::Mitchell => out(&keys::MITCHELL),
+        FilterType::Box => out(rt, &keys::BOX),
+        FilterType::Bilinear => out(rt, &keys::BILINEAR),
+        FilterType::CatmullRom => out(rt, &keys::CATMULL_ROM),
+        FilterType::Mitchell => out(rt, &keys::MITCHELL),
     }
 }
 
 // A line for each of so many windows.
-fn windows(count: usize, precision: u32, starts: &[u32], sizes: &[u32], excesses: &[i64]) {
+fn windows(
+    rt: HostRuntime,
+    count: usize,
+    precision: u32,
+    starts: &[u32],
+    sizes: &[u32],
+    excesses: &[i64],
+) {
     let mut i: usize = 0;
     while i < count {
         if starts.len() <= i {
@@ -63,23 +73,23 @@ fn windows(count: usize, precision: u32, starts: &[u32], sizes: &[u32], excesses
         if excesses.len() <= i {
             return;
         }
-        window(i, precision, starts[i], sizes[i], excesses[i]);
+        window(rt, i, precision, starts[i], sizes[i], excesses[i]);
         i += 1;
     }
 }
 
 // The line of window i.
-fn window(i: usize, precision: u32, start: u32, size: u32, excess: i64) {
-    out(b"display line ");
-    out_number(i as u64);
-    out(b": camera lines ");
-    out_number(start as u64);
-    out(b" to ");
-    out_number(last(start, size));
-    out(b", weights add up to 2^");
-    out_number(precision as u64);
-    beside(excess);
-    out(b"\n");
+fn window(rt: HostRuntime, i: usize, precision: u32, start: u32, size: u32, excess: i64) {
+    out(rt, b"display line ");
+    out_number(rt, i as u64);
+    out(rt, b": camera lines ");
+    out_number(rt, start as u64);
+    out(rt, b" to ");
+    out_number(rt, last(start, size));
+    out(rt, b", weights add up to 2^");
+    out_number(rt, precision as u64);
+    beside(rt, excess);
+    out(rt, b"\n");
 }
 
 // The last line of a window.
@@ -92,14 +102,14 @@ fn last(start: u32, size: u32) -> u64 {
 }
 
 // What the total is more or less than 2^precision.
-fn beside(excess: i64) {
+fn beside(rt: HostRuntime, excess: i64) {
     if excess < 0 {
-        out(b" - ");
+        out(rt, b" - ");
     }
     if 0 < excess {
-        out(b" + ");
+        out(rt, b" + ");
     }
     if excess != 0 {
-        out_number(size(excess));
+        out_number(rt, size(excess));
     }
 }

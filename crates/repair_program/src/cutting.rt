@@ -15,6 +15,7 @@ fn slots_of(n: usize, window: usize) -> usize {
 
 // The set without the slots, starts, sizes and excesses that are not its own.
 pub(crate) fn cut(
+    rt: HostRuntime,
     head: Sizes,
     store: StoreLines,
     narrow: &mut [i16],
@@ -27,21 +28,22 @@ pub(crate) fn cut(
     let n = head.windows as usize;
     let slots = slots_of(n, head.window_size as usize);
     if narrow.len() < slots {
-        return sheet_files::too_large();
+        return sheet_files::too_large(rt);
     }
     if wide.len() < slots {
-        return sheet_files::too_large();
+        return sheet_files::too_large(rt);
     }
     if starts.len() < n {
-        return sheet_files::too_large();
+        return sheet_files::too_large(rt);
     }
     if sizes.len() < n {
-        return sheet_files::too_large();
+        return sheet_files::too_large(rt);
     }
     if excesses.len() < n {
-        return sheet_files::too_large();
+        return sheet_files::too_large(rt);
     }
     repairing::repair(
+        rt,
         head,
         store,
         &mut narrow[a..slots],

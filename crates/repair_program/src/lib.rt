@@ -13,29 +13,30 @@ mod stores;
 use reader::Reading;
 
 // Answers the program's one argument, a file's name. The text stands here, apart from what looks at it.
-pub fn run() {
+pub fn run(rt: HostRuntime) {
     let mut text = [0u8; 524288];
-    answer(&mut text);
+    answer(rt, sheet_files::room(&mut text));
 }
 
 // Reads the file, and what it has.
-fn answer(text: &mut [u8]) {
+fn answer(rt: HostRuntime, text: &mut [u8]) {
     let a: usize = 0;
-    let got = sheet_files::text(text);
+    let got = sheet_files::text(rt, text);
     let n = got.n;
     if got.whole {
-        judge(&text[a..n]);
+        judge(rt, &text[a..n]);
     }
 }
 
 // The lists of `read`, and nothing else: one call. They are as long as those of `read_back`.
-fn judge(text: &[u8]) {
+fn judge(rt: HostRuntime, text: &[u8]) {
     let mut narrow = [0i16; 131072];
     let mut wide = [0i32; 131072];
     let mut starts = [0u32; 8192];
     let mut sizes = [0u32; 8192];
     let mut excesses = [0i64; 8192];
     read(
+        rt,
         text,
         &mut narrow,
         &mut wide,
@@ -47,6 +48,7 @@ fn judge(text: &[u8]) {
 
 // The sheet, read as one of either store.
 fn read(
+    rt: HostRuntime,
     text: &[u8],
     narrow: &mut [i16],
     wide: &mut [i32],
@@ -56,16 +58,17 @@ fn read(
 ) {
     let answer = reader::read_sheet(text, wide, starts, sizes, excesses);
     let Reading::Loaded(head, store) = answer else {
-        return unread(answer, text);
+        return unread(rt, answer, text);
     };
     if store.bits == 16 {
-        return read16(text, narrow, wide, starts, sizes, excesses);
+        return read16(rt, text, narrow, wide, starts, sizes, excesses);
     }
-    cutting::cut(head, store, narrow, wide, starts, sizes, excesses);
+    cutting::cut(rt, head, store, narrow, wide, starts, sizes, excesses);
 }
 
 // One of the 16-bit store, into a list of that store.
 fn read16(
+    rt: HostRuntime,
     text: &[u8],
     narrow: &mut [i16],
     wide: &mut [i32],
@@ -75,16 +78,16 @@ fn read16(
 ) {
     let answer = reader::read_sheet16(text, narrow, starts, sizes, excesses);
     let Reading::Loaded(head, store) = answer else {
-        return unread(answer, text);
+        return unread(rt, answer, text);
     };
-    cutting::cut(head, store, narrow, wide, starts, sizes, excesses);
+    cutting::cut(rt, head, store, narrow, wide, starts, sizes, excesses);
 }
 
 // Why there is no set.
-fn unread(answer: Reading, text: &[u8]) {
+fn unread(rt: HostRuntime, answer: Reading, text: &[u8]) {
     match answer {
         Reading::Loaded(_, _) => return,
-        Reading::TooFew => sheet_files::too_large(),
-        Reading::NotASheet(byte) => sheet_files::refused(text, byte),
+        Reading::TooFew => sheet_files::too_large(rt),
+        Reading::NotASheet(byte) => sheet_files::refused(rt, text, byte),
     }
 }

@@ -1,11 +1,13 @@
 // The sheet of the repaired set, printed.
 use crate::refused;
 use sheet::Sheet;
+use sheet_files::room;
 use sheet_files::streams::out;
 use sheet_scan::{Sizes, StoreLines};
 
 // The sheet of the set as it is now stored.
 pub(crate) fn print(
+    rt: HostRuntime,
     head: Sizes,
     store: StoreLines,
     narrow: &[i16],
@@ -16,22 +18,29 @@ pub(crate) fn print(
 ) {
     let mut text = [0u8; 524288];
     let answer = written(
-        head, store, narrow, wide, starts, sizes, excesses, &mut text,
+        head,
+        store,
+        narrow,
+        wide,
+        starts,
+        sizes,
+        excesses,
+        room(&mut text),
     );
-    show(answer, &text);
+    show(rt, answer, &text);
 }
 
 // The first bytes of the list, which are the sheet.
-fn show(answer: Sheet, text: &[u8]) {
+fn show(rt: HostRuntime, answer: Sheet, text: &[u8]) {
     let Sheet::Written(length) = answer else {
-        return refused::too_long();
+        return refused::too_long(rt);
     };
     let a: usize = 0;
     let n = length as usize;
     if text.len() < n {
-        return refused::too_long();
+        return refused::too_long(rt);
     }
-    out(&text[a..n]);
+    out(rt, &text[a..n]);
 }
 
 // The writer of the sheet's store.

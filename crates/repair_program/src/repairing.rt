@@ -5,6 +5,7 @@ use sheet_scan::{Sizes, StoreLines};
 
 // The lists of the offer, and nothing else: one call.
 pub(crate) fn repair(
+    rt: HostRuntime,
     head: Sizes,
     store: StoreLines,
     narrow: &mut [i16],
@@ -16,6 +17,7 @@ pub(crate) fn repair(
     let mut narrow_offer = [0i16; 131072];
     let mut wide_offer = [0i32; 131072];
     offered(
+        rt,
         head,
         store,
         narrow,
@@ -30,6 +32,7 @@ pub(crate) fn repair(
 
 // The offer, as long as the set.
 fn offered(
+    rt: HostRuntime,
     head: Sizes,
     store: StoreLines,
     narrow: &mut [i16],
@@ -53,16 +56,17 @@ fn offered(
         wide_offer,
     );
     let Offered::Done = answer else {
-        return refused::not_offered(answer, sizes, excesses);
+        return refused::not_offered(rt, answer, sizes, excesses);
     };
     let slots = narrow.len();
     if narrow_offer.len() < slots {
-        return sheet_files::too_large();
+        return sheet_files::too_large(rt);
     }
     if wide_offer.len() < slots {
-        return sheet_files::too_large();
+        return sheet_files::too_large(rt);
     }
     accepted(
+        rt,
         head,
         store,
         narrow,
@@ -77,6 +81,7 @@ fn offered(
 
 // The offer judged and taken over.
 fn accepted(
+    rt: HostRuntime,
     head: Sizes,
     store: StoreLines,
     narrow: &mut [i16],
@@ -99,7 +104,7 @@ fn accepted(
         wide_offer,
     );
     let Accepted::Done = answer else {
-        return refused::number(answer.number());
+        return refused::number(rt, answer.number());
     };
-    printing::print(head, store, narrow, wide, starts, sizes, excesses);
+    printing::print(rt, head, store, narrow, wide, starts, sizes, excesses);
 }

@@ -1,6 +1,6 @@
 // `repair_sheet` with a sheet whose display line 1 has no offer: an excess of -5, and three weights.
 #![tactic(auto)]
 
-fn main() {
-    repair_program::run();
+fn main(rt: HostRuntime) {
+    repair_program::run(rt);
 }

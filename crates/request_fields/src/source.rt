@@ -2,7 +2,7 @@
 use crate::{convert, fields, item, words};
 
 // Whether it is a word's; whether an element is left; that element's place and end, and the last place or end. Of a lent list these are indices.
-#[derive(Drop)]
+#[derive(Clone, Copy)]
 pub(crate) struct Source {
     pub(crate) list: bool,
     pub(crate) more: bool,

@@ -1,6 +1,9 @@
 // The bytes of the file that an argument names.
 ghost use Rattle.std.specs.Prelude.{◌-◌, ◌≤◌, length};
 
+use program_streams::Part;
+use std::fs::File;
+
 // The file's end was seen; or it could not be opened or read; or it goes on where the room ends.
 #[derive(Drop)]
 pub(crate) enum Ends {
@@ -16,13 +19,6 @@ pub(crate) struct Input {
     pub(crate) ends: Ends,
 }
 
-// What one read brings.
-#[derive(Drop)]
-struct Part {
-    n: usize,
-    failed: bool,
-}
-
 // Nothing was read.
 fn failed() -> Input
     ensures { result.n ≤ 0 }
@@ -34,31 +30,23 @@ fn failed() -> Input
 }
 
 // One read behind the place a.
-fn read_at(fd: i32, buf: &mut [u8], a: usize) -> Part
+fn read_at(file: &mut File, buf: &mut [u8], a: usize) -> Part
     ensures { result.n ≤ length buf.old - a }
 {
     let e = buf.len();
     if e < a {
         return Part { n: 0, failed: true };
     }
-    let got = libc::read(fd, &mut buf[a..e]);
-    let n = io::count(got, buf);
-    if e - a < n {
-        return Part { n: 0, failed: true };
-    }
-    Part {
-        n: n,
-        failed: got < 0,
-    }
+    program_streams::read_once(file, &mut buf[a..e])
 }
 
 // Reads to the file's end, or until the list is full.
-fn fill(fd: i32, buf: &mut [u8]) -> Part
+fn fill(file: &mut File, buf: &mut [u8]) -> Part
     ensures { result.n ≤ length buf.old }
 {
     let mut n: usize = 0;
     while n < buf.len() {
-        let part = read_at(fd, buf, n);
+        let part = read_at(file, buf, n);
         if part.failed {
             return Part { n: 0, failed: true };
         }
@@ -77,28 +65,21 @@ fn fill(fd: i32, buf: &mut [u8]) -> Part
 }
 
 // Whether the file goes on.
-fn goes_on(fd: i32) -> bool {
+fn goes_on(file: &mut File) -> bool {
     let mut more = [0u8; 1];
-    let got = libc::read(fd, &mut more);
-    0 < got
-}
-
-// The descriptor of the file that argument i names, below 0 where it cannot be opened.
-fn opened(i: usize) -> i32 {
-    let mut name = [0u8; 4096];
-    let k = os::arg(i, &mut name);
-    os::open_read(&name[..k])
+    let part = program_streams::read_once(file, &mut more);
+    0 < part.n
 }
 
 // The bytes of an open file.
-fn whole(fd: i32, buf: &mut [u8]) -> Input
+fn whole(file: &mut File, buf: &mut [u8]) -> Input
     ensures { result.n ≤ length buf.old }
 {
-    let part = fill(fd, buf);
+    let part = fill(file, buf);
     if part.failed {
         return failed();
     }
-    if goes_on(fd) {
+    if goes_on(file) {
         return Input {
             n: 0,
             ends: Ends::Long,
@@ -111,14 +92,12 @@ fn whole(fd: i32, buf: &mut [u8]) -> Input
 }
 
 // The bytes of the file that argument i names, in the beginning of the list. It is closed again, so that a program may read any number of files.
-pub(crate) fn read(i: usize, buf: &mut [u8]) -> Input
+pub(crate) fn read(rt: HostRuntime, i: usize, buf: &mut [u8]) -> Input
     ensures { result.n ≤ length buf.old }
 {
-    let fd = opened(i);
-    if fd < 0 {
+    let opened = program_streams::opened(rt, i);
+    let Ok(mut file) = opened else {
         return failed();
-    }
-    let got = whole(fd, buf);
-    libc::close(fd);
-    got
+    };
+    whole(&mut file, buf)
 }

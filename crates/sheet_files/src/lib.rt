@@ -29,8 +29,13 @@ fn none() -> Brought
     Brought { n: 0, whole: false }
 }
 
+// A text's room as a list. Where it is borrowed its length stands in its type, and need not be counted from its zeros.
+pub fn room(text: &mut [u8; 524288]) -> &mut [u8] {
+    text
+}
+
 // What was read of the file that argument i names.
-fn told(i: usize, got: Input) -> Brought
+fn told(rt: HostRuntime, i: usize, got: Input) -> Brought
     ensures { result.n ≤ got.n }
 {
     let ends = got.ends;
@@ -39,30 +44,31 @@ fn told(i: usize, got: Input) -> Brought
             n: got.n,
             whole: true,
         },
-        Ends::Failed => unread::failed(i),
-        Ends::Long => unread::long(i),
+        Ends::Failed => unread::failed(rt, i),
+        Ends::Long => unread::long(rt, i),
     }
     none()
 }
 
 // The bytes of the file that argument i names, whatever others there are, in the beginning of the list.
-pub fn text_of(i: usize, buf: &mut [u8]) -> Brought
+pub fn text_of(rt: HostRuntime, i: usize, buf: &mut [u8]) -> Brought
     ensures { result.n ≤ length buf.old }
 {
-    told(i, file::read(i, buf))
+    told(rt, i, file::read(rt, i, buf))
 }
 
 // The same where that is the only argument.
-pub fn text(buf: &mut [u8]) -> Brought
+pub fn text(rt: HostRuntime, buf: &mut [u8]) -> Brought
     ensures { result.n ≤ length buf.old }
 {
-    if os::arg_count() < 2 {
-        unread::missing();
+    let count = program_streams::argument_count(rt);
+    if count < 2 {
+        unread::missing(rt);
         return none();
     }
-    if 2 < os::arg_count() {
-        unread::too_many();
+    if 2 < count {
+        unread::too_many(rt);
         return none();
     }
-    text_of(1, buf)
+    text_of(rt, 1, buf)
 }

@@ -6,47 +6,47 @@ use crate::place::Place;
 use crate::streams::{err, err_name, err_number, out, out_byte, out_number};
 
 // No. 13.
-pub fn refused(text: &[u8], byte: u64) {
+pub fn refused(rt: HostRuntime, text: &[u8], byte: u64) {
     let p = place::of(text, byte);
     let column = (p.at - p.from) as u64 + 1;
-    out(b"refused=13 name=NotASheet byte=");
-    out_number(byte);
-    out(b" line=");
-    out_number(p.line);
-    out(b" column=");
-    out_number(column);
-    out(b"\n");
-    around(text, p.from, p.at);
-    reason(text, p.line, column, p.at);
+    out(rt, b"refused=13 name=NotASheet byte=");
+    out_number(rt, byte);
+    out(rt, b" line=");
+    out_number(rt, p.line);
+    out(rt, b" column=");
+    out_number(rt, column);
+    out(rt, b"\n");
+    around(rt, text, p.from, p.at);
+    reason(rt, text, p.line, column, p.at);
 }
 
 // The reason in words.
-fn reason(text: &[u8], line: u64, column: u64, at: usize) {
-    err(b"no sheet: it begins as one up to the mark at line ");
-    err_place(text, line, column, at);
+fn reason(rt: HostRuntime, text: &[u8], line: u64, column: u64, at: usize) {
+    err(rt, b"no sheet: it begins as one up to the mark at line ");
+    err_place(rt, text, line, column, at);
 }
 
 // The first bad sheet of the file that argument i names: the byte of the file, line and column.
-pub fn stopped(i: usize, text: &[u8], byte: u64) {
+pub fn stopped(rt: HostRuntime, i: usize, text: &[u8], byte: u64) {
     let p = place::of(text, byte);
     let column = (p.at - p.from) as u64 + 1;
-    err(b"no sheet in ");
-    err_name(i);
-    err(b": it begins as one up to byte ");
-    err_number(byte);
-    err(b", line ");
-    err_place(text, p.line, column, p.at);
+    err(rt, b"no sheet in ");
+    err_name(rt, i);
+    err(rt, b": it begins as one up to byte ");
+    err_number(rt, byte);
+    err(rt, b", line ");
+    err_place(rt, text, p.line, column, p.at);
 }
 
 // Line and column, and what is there.
-fn err_place(text: &[u8], line: u64, column: u64, at: usize) {
-    err_number(line);
-    err(b", column ");
-    err_number(column);
+fn err_place(rt: HostRuntime, text: &[u8], line: u64, column: u64, at: usize) {
+    err_number(rt, line);
+    err(rt, b", column ");
+    err_number(rt, column);
     if at < text.len() {
-        err(b", and no sheet goes on so\n");
+        err(rt, b", and no sheet goes on so\n");
     } else {
-        err(b", where the file ends\n");
+        err(rt, b", where the file ends\n");
     }
 }
 
@@ -73,31 +73,31 @@ fn back(at: usize, to: usize) -> usize
 }
 
 // The line, or of a long one 60 bytes before the place and 20 after it, and the mark.
-fn around(text: &[u8], from: usize, at: usize)
+fn around(rt: HostRuntime, text: &[u8], from: usize, at: usize)
     requires { (from ≤ at) × (at ≤ length text.now) }
 {
     let to = place::line_end(text, at);
     let a = front(from, at);
     let e = back(at, to);
     if from < a {
-        out(b"..");
+        out(rt, b"..");
     }
-    visible(&text[a..e]);
+    visible(rt, &text[a..e]);
     if e < to {
-        out(b"..");
+        out(rt, b"..");
     }
-    out(b"\n");
+    out(rt, b"\n");
     if from < a {
-        out(b"  ");
+        out(rt, b"  ");
     }
-    mark(at - a);
+    mark(rt, at - a);
 }
 
 // The bytes, a question mark for each that no terminal shows as one letter.
-fn visible(part: &[u8]) {
+fn visible(rt: HostRuntime, part: &[u8]) {
     let mut i: usize = 0;
     while i < part.len() {
-        out_byte(shown(part[i]));
+        out_byte(rt, shown(part[i]));
         i += 1;
     }
 }
@@ -114,11 +114,11 @@ fn shown(b: u8) -> u8 {
 }
 
 // A mark behind so many bytes.
-fn mark(n: usize) {
+fn mark(rt: HostRuntime, n: usize) {
     let mut i: usize = 0;
     while i < n {
-        out_byte(b' ');
+        out_byte(rt, b' ');
         i += 1;
     }
-    out(b"^\n");
+    out(rt, b"^\n");
 }

@@ -2,6 +2,7 @@
 use crop_edges::Edge;
 use filters::FilterType;
 use numerals::Number;
+use program_streams::Length;
 use sheet::keys;
 
 // A filter's name read.
@@ -99,43 +100,42 @@ fn capital(word: &[u8]) -> bool {
 }
 
 // Argument i as a filter's name.
-pub(crate) fn filter_at(i: usize) -> Name {
+pub(crate) fn filter_at(rt: HostRuntime, i: usize) -> Name {
     let mut word = [0u8; 64];
-    let n = os::arg(i, &mut word);
+    let n = program_streams::argument(rt, i, &mut word);
     filter_of(&word[..n])
 }
 
 // Argument i as a whole number.
-pub(crate) fn whole_at(i: usize) -> Whole {
+pub(crate) fn whole_at(rt: HostRuntime, i: usize) -> Whole {
     let mut word = [0u8; 64];
-    let n = os::arg(i, &mut word);
+    let n = program_streams::argument(rt, i, &mut word);
     whole_of(&word[..n])
 }
 
 // Argument i as an edge.
-pub(crate) fn edge_at(i: usize) -> Edge {
+pub(crate) fn edge_at(rt: HostRuntime, i: usize) -> Edge {
     let mut word = [0u8; 64];
-    let n = os::arg(i, &mut word);
+    let n = program_streams::argument(rt, i, &mut word);
     crop_edges::read_edge(&word[..n])
 }
 
 // Whether argument i is the name.
-pub(crate) fn is_at(i: usize, name: &[u8]) -> bool {
+pub(crate) fn is_at(rt: HostRuntime, i: usize, name: &[u8]) -> bool {
     let mut word = [0u8; 64];
-    let n = os::arg(i, &mut word);
+    let n = program_streams::argument(rt, i, &mut word);
     is(&word[..n], name)
 }
 
 // Why argument i was not read.
-pub(crate) fn reason_at(i: usize) -> Why {
-    if os::arg_count() <= i {
-        return Why::Missing;
-    }
+pub(crate) fn reason_at(rt: HostRuntime, i: usize) -> Why {
     let mut word = [0u8; 64];
-    let n = os::arg(i, &mut word);
-    if os::errno() != 0 {
-        return Why::Long;
+    match program_streams::argument_length(rt, i, &mut word) {
+        Length::Missing => return Why::Missing,
+        Length::Long => return Why::Long,
+        Length::Is(_) => {}
     }
+    let n = program_streams::argument(rt, i, &mut word);
     if capital(&word[..n]) {
         return Why::Capitals;
     }

@@ -15,7 +15,7 @@ mod words;
 use filters::FilterType;
 
 // What is asked: a set of weights down one axis, and the store of its sheet.
-#[derive(Drop)]
+#[derive(Clone, Copy)]
 pub(crate) struct Asked {
     pub(crate) filter: FilterType,
     pub(crate) side: u32,
@@ -40,10 +40,10 @@ fn example() -> Asked {
 }
 
 // Answers the program's arguments; without any, prints the example.
-pub fn run() {
-    if os::arg_count() < 2 {
-        making::print(example());
+pub fn run(rt: HostRuntime) {
+    if program_streams::argument_count(rt) < 2 {
+        making::print(rt, example());
         return;
     }
-    words::answer();
+    words::answer(rt);
 }

@@ -27,38 +27,52 @@ fn request(asked: Asked) -> Request {
 }
 
 // Prints the sheet of what is asked, or says why there is none.
-pub(crate) fn print(asked: Asked) {
+pub(crate) fn print(rt: HostRuntime, asked: Asked) {
     let mut weights = [0.0f64; 65536];
     let mut starts = [0u32; 8192];
     let mut sizes = [0u32; 8192];
-    build(asked, &mut weights, &mut starts, &mut sizes);
+    build(rt, asked, &mut weights, &mut starts, &mut sizes);
 }
 
 // Builds the set, in lists that stand apart from this.
-fn build(asked: Asked, weights: &mut [f64], starts: &mut [u32], sizes: &mut [u32]) {
+fn build(
+    rt: HostRuntime,
+    asked: Asked,
+    weights: &mut [f64],
+    starts: &mut [u32],
+    sizes: &mut [u32],
+) {
     let built = coefficients::build(request(asked), weights, starts, sizes);
     match built {
-        Built::Done(window) => count_slots(asked, window, weights, starts, sizes),
-        Built::Blank(line) => blank(line.0),
-        Built::Refused(refusal) => refused(refusal, asked),
+        Built::Done(window) => count_slots(rt, asked, window, weights, starts, sizes),
+        Built::Blank(line) => blank(rt, line.0),
+        Built::Refused(refusal) => refused(rt, refusal, asked),
     }
 }
 
 // How many slots the set has: window size x output side.
-fn count_slots(asked: Asked, window: u32, weights: &[f64], starts: &[u32], sizes: &[u32]) {
+fn count_slots(
+    rt: HostRuntime,
+    asked: Asked,
+    window: u32,
+    weights: &[f64],
+    starts: &[u32],
+    sizes: &[u32],
+) {
     let n = asked.output as usize;
     let w = window as usize;
     if 8192 < n {
-        return limits::slots();
+        return limits::slots(rt);
     }
     if 32769 < w {
-        return limits::slots();
+        return limits::slots(rt);
     }
-    cut(asked, window, n, n * w, weights, starts, sizes);
+    cut(rt, asked, window, n, n * w, weights, starts, sizes);
 }
 
 // The set without the slots, starts and sizes that were not asked for.
 fn cut(
+    rt: HostRuntime,
     asked: Asked,
     window: u32,
     n: usize,
@@ -69,16 +83,17 @@ fn cut(
 ) {
     let a: usize = 0;
     if weights.len() < slots {
-        return limits::slots();
+        return limits::slots(rt);
     }
     if starts.len() < n {
-        return limits::slots();
+        return limits::slots(rt);
     }
     if sizes.len() < n {
-        return limits::slots();
+        return limits::slots(rt);
     }
     if asked.narrow {
         sheet16(
+            rt,
             asked,
             window,
             &weights[a..slots],
@@ -87,6 +102,7 @@ fn cut(
         );
     } else {
         sheet32(
+            rt,
             asked,
             window,
             &weights[a..slots],

@@ -1,13 +1,25 @@
 // The set as integers of a store, and the sheet of it, printed.
 use crate::refused::refused;
+use crate::streams::out;
 use crate::{Asked, limits};
-use libc::STDOUT_FILENO;
 use normalizer::Normalized;
 use refusal::Refusal;
 use sheet::Sheet;
 
+// The room of a text as a list: where it is borrowed its length stands in its type, and need not be counted from its zeros.
+fn room_list(room: &mut [u8; 524288]) -> &mut [u8] {
+    room
+}
+
 // In the 16-bit store.
-pub(crate) fn sheet16(asked: Asked, window: u32, weights: &[f64], starts: &[u32], sizes: &[u32]) {
+pub(crate) fn sheet16(
+    rt: HostRuntime,
+    asked: Asked,
+    window: u32,
+    weights: &[f64],
+    starts: &[u32],
+    sizes: &[u32],
+) {
     let mut store = [0i16; 65536];
     let mut excesses = [0i64; 8192];
     let mut text = [0u8; 524288];
@@ -22,17 +34,17 @@ pub(crate) fn sheet16(asked: Asked, window: u32, weights: &[f64], starts: &[u32]
         &mut excesses,
     );
     let Normalized::Done(precision) = normalized else {
-        refused(refusal_of(normalized), asked);
+        refused(rt, refusal_of(normalized), asked);
         return;
     };
     let a: usize = 0;
     let n = weights.len();
     let m = starts.len();
     if 65536 < n {
-        return limits::slots();
+        return limits::slots(rt);
     }
     if 8192 < m {
-        return limits::slots();
+        return limits::slots(rt);
     }
     let filter = asked.filter;
     let used = &store[a..n];
@@ -45,13 +57,20 @@ pub(crate) fn sheet16(asked: Asked, window: u32, weights: &[f64], starts: &[u32]
         starts,
         sizes,
         &excesses[a..m],
-        &mut text,
+        room_list(&mut text),
     );
-    show(asked, written, &text);
+    show(rt, asked, written, &text);
 }
 
 // In the 32-bit store.
-pub(crate) fn sheet32(asked: Asked, window: u32, weights: &[f64], starts: &[u32], sizes: &[u32]) {
+pub(crate) fn sheet32(
+    rt: HostRuntime,
+    asked: Asked,
+    window: u32,
+    weights: &[f64],
+    starts: &[u32],
+    sizes: &[u32],
+) {
     let mut store = [0i32; 65536];
     let mut excesses = [0i64; 8192];
     let mut text = [0u8; 524288];
@@ -66,17 +85,17 @@ pub(crate) fn sheet32(asked: Asked, window: u32, weights: &[f64], starts: &[u32]
         &mut excesses,
     );
     let Normalized::Done(precision) = normalized else {
-        refused(refusal_of(normalized), asked);
+        refused(rt, refusal_of(normalized), asked);
         return;
     };
     let a: usize = 0;
     let n = weights.len();
     let m = starts.len();
     if 65536 < n {
-        return limits::slots();
+        return limits::slots(rt);
     }
     if 8192 < m {
-        return limits::slots();
+        return limits::slots(rt);
     }
     let filter = asked.filter;
     let used = &store[a..n];
@@ -89,9 +108,9 @@ pub(crate) fn sheet32(asked: Asked, window: u32, weights: &[f64], starts: &[u32]
         starts,
         sizes,
         &excesses[a..m],
-        &mut text,
+        room_list(&mut text),
     );
-    show(asked, written, &text);
+    show(rt, asked, written, &text);
 }
 
 // A normaliser's refusal.
@@ -103,19 +122,19 @@ fn refusal_of(normalized: Normalized) -> Refusal {
 }
 
 // Prints the text that was written.
-fn show(asked: Asked, written: Sheet, text: &[u8]) {
+fn show(rt: HostRuntime, asked: Asked, written: Sheet, text: &[u8]) {
     match written {
-        Sheet::Written(length) => print_text(length, text),
-        Sheet::Refused(refusal) => refused(refusal, asked),
+        Sheet::Written(length) => print_text(rt, length, text),
+        Sheet::Refused(refusal) => refused(rt, refusal, asked),
     }
 }
 
 // The first bytes of the list, which are the text.
-fn print_text(length: u64, text: &[u8]) {
+fn print_text(rt: HostRuntime, length: u64, text: &[u8]) {
     let a: usize = 0;
     let n = length as usize;
     if text.len() < n {
         return;
     }
-    io::write_all(STDOUT_FILENO, &text[a..n]);
+    out(rt, &text[a..n]);
 }

@@ -1,6 +1,6 @@
 // `why_pixel` with a column that the frame does not have: the place, and where the sheet and the frame end.
 #![tactic(auto)]
 
-fn main() {
-    why_program::run();
+fn main(rt: HostRuntime) {
+    why_program::run(rt);
 }

@@ -40,7 +40,7 @@ fn bar(weight: u64, most: u64) -> u64 {
 }
 
 // A line for each camera line from `first` on.
-pub(crate) fn bars(first: u64, weights: &[i32], samples: &[u16]) {
+pub(crate) fn bars(rt: HostRuntime, first: u64, weights: &[i32], samples: &[u16]) {
     let most = largest(weights);
     let mut k: usize = 0;
     while k < weights.len() {
@@ -50,60 +50,60 @@ pub(crate) fn bars(first: u64, weights: &[i32], samples: &[u16]) {
         if u64::MAX - first < k as u64 {
             return;
         }
-        drawn(first + k as u64, wide(weights[k]), samples[k], most);
+        drawn(rt, first + k as u64, wide(weights[k]), samples[k], most);
         k += 1;
     }
 }
 
 // One line.
-fn drawn(line: u64, weight: i64, sample: u16, most: u64) {
+fn drawn(rt: HostRuntime, line: u64, weight: i64, sample: u16, most: u64) {
     let n = bar(size(weight), most);
-    right(line, 1000);
-    out(b" ");
+    right(rt, line, 1000);
+    out(rt, b" ");
     if weight < 0 {
-        sided(n, b' ', b'#');
-        out(b"|");
-        sided(0, b'#', b' ');
+        sided(rt, n, b' ', b'#');
+        out(rt, b"|");
+        sided(rt, 0, b'#', b' ');
     } else {
-        sided(0, b' ', b'#');
-        out(b"|");
-        sided(n, b'#', b' ');
+        sided(rt, 0, b' ', b'#');
+        out(rt, b"|");
+        sided(rt, n, b'#', b' ');
     }
-    out(b" ");
-    right(sample as u64, 10000);
-    out(b"\n");
+    out(rt, b" ");
+    right(rt, sample as u64, 10000);
+    out(rt, b"\n");
 }
 
 // One side of zero: on the left the bar comes last, on the right first.
-fn sided(n: u64, outer: u8, inner: u8) {
+fn sided(rt: HostRuntime, n: u64, outer: u8, inner: u8) {
     if LONGEST < n {
         return;
     }
     if outer == b'#' {
-        many(n, outer);
-        return many(LONGEST - n, inner);
+        many(rt, n, outer);
+        return many(rt, LONGEST - n, inner);
     }
-    many(LONGEST - n, outer);
-    many(n, inner);
+    many(rt, LONGEST - n, outer);
+    many(rt, n, inner);
 }
 
 // A byte so many times.
-fn many(n: u64, b: u8) {
+fn many(rt: HostRuntime, n: u64, b: u8) {
     let mut i: u64 = 0;
     while i < n {
-        out_byte(b);
+        out_byte(rt, b);
         i += 1;
     }
 }
 
 // A number to the right, where `most` is the highest place that it may fill.
-fn right(n: u64, most: u64) {
+fn right(rt: HostRuntime, n: u64, most: u64) {
     let mut place = most;
     while 1 < place {
         if n < place {
-            out_byte(b' ');
+            out_byte(rt, b' ');
         }
         place = place / 10;
     }
-    out_number(n);
+    out_number(rt, n);
 }

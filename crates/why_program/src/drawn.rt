@@ -4,15 +4,22 @@ use crate::told::Asked;
 use frame_files::times;
 
 // Whether the window is to be drawn: the fifth argument is `draw`.
-fn wanted() -> bool {
+fn wanted(rt: HostRuntime) -> bool {
     let mut word = [0u8; 8];
-    let n = os::arg(5, &mut word);
+    let n = program_streams::argument(rt, 5, &mut word);
     (n == 4) & (text::shared(b"draw", &word, 0) == 4)
 }
 
 // The window of the display line.
-pub(crate) fn window(q: Asked, samples: &[u16], weights: &[i32], starts: &[u32], sizes: &[u32]) {
-    if !wanted() {
+pub(crate) fn window(
+    rt: HostRuntime,
+    q: Asked,
+    samples: &[u16],
+    weights: &[i32],
+    starts: &[u32],
+    sizes: &[u32],
+) {
+    if !wanted(rt) {
         return;
     }
     let i = q.line as usize;
@@ -39,7 +46,7 @@ pub(crate) fn window(q: Asked, samples: &[u16], weights: &[i32], starts: &[u32],
     }
     let to = from + n;
     let end = start + n;
-    bars(start as u64, &weights[from..to], &samples[start..end]);
+    bars(rt, start as u64, &weights[from..to], &samples[start..end]);
 }
 
 // A start or a size as an index.

@@ -1,6 +1,7 @@
 // One column of the frame that argument 2 names: raw little-endian samples of 16 bits, camera line after camera line. Only the column's bytes are read.
 use frame_files::value_of;
-use libc::{SEEK_CUR, SEEK_SET};
+use std::fs::File;
+use std::io::{Seek, SeekFrom};
 
 // One sample read.
 #[derive(Drop)]
@@ -10,9 +11,10 @@ struct Sample {
 }
 
 // The next sample.
-fn next_sample(fd: i32) -> Sample {
+fn next_sample(file: &File) -> Sample {
+    let mut from = file;
     let mut two = [0u8; 2];
-    let n = io::read_full(fd, &mut two);
+    let n = program_streams::read_full(&mut from, &mut two);
     if n < 2 {
         return Sample {
             value: 0,
@@ -26,23 +28,24 @@ fn next_sample(fd: i32) -> Sample {
 }
 
 // Moves on by so many samples, two bytes each; whether that could be done.
-fn skipped(fd: i32, samples: i64) -> bool {
-    if libc::lseek(fd, samples, SEEK_CUR) < 0 {
+fn skipped(file: &File, samples: i64) -> bool {
+    let mut at = file;
+    if at.seek(SeekFrom::Current(samples)).is_err() {
         return false;
     }
-    !(libc::lseek(fd, samples, SEEK_CUR) < 0)
+    at.seek(SeekFrom::Current(samples)).is_ok()
 }
 
 // Samples from where the file stands, so many left out after each; whether there were as many as the list has places.
-fn take(fd: i32, skip: i64, samples: &mut [u16]) -> bool {
+fn take(file: &File, skip: i64, samples: &mut [u16]) -> bool {
     let mut k: usize = 0;
     while k < samples.len() {
-        let s = next_sample(fd);
+        let s = next_sample(file);
         if s.failed {
             return false;
         }
         samples[k] = s.value;
-        if !skipped(fd, skip) {
+        if !skipped(file, skip) {
             return false;
         }
         k += 1;
@@ -51,15 +54,16 @@ fn take(fd: i32, skip: i64, samples: &mut [u16]) -> bool {
 }
 
 // A column of a frame with such rows, as many lines as the list has places; whether it could be read.
-pub(crate) fn column(fd: i32, row: u32, at: u32, samples: &mut [u16]) -> bool {
+pub(crate) fn column(file: &File, row: u32, at: u32, samples: &mut [u16]) -> bool {
     if row == 0 {
         return false;
     }
-    if libc::lseek(fd, 0, SEEK_SET) < 0 {
+    let mut first = file;
+    if first.seek(SeekFrom::Start(0)).is_err() {
         return false;
     }
-    if !skipped(fd, at as i64) {
+    if !skipped(file, at as i64) {
         return false;
     }
-    take(fd, (row - 1) as i64, samples)
+    take(file, (row - 1) as i64, samples)
 }

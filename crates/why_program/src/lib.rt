@@ -5,49 +5,58 @@
 
 mod bars;
 mod drawn;
+mod figures;
 mod frame;
-mod lists;
-mod numbers;
 mod said;
+mod set_lists;
 mod told;
 
-use numbers::Place;
+use figures::Place;
 use reader::Reading;
 use sheet_scan::{Sizes, StoreLines};
 
 // Answers the program's arguments: SHEET FRAME LINE COLUMN, and `draw` where the window is to be drawn too. The text stands here, apart from what looks at it.
-pub fn run() {
+pub fn run(rt: HostRuntime) {
     let mut text = [0u8; 524288];
-    if os::arg_count() < 5 {
-        return said::missing();
+    let count = program_streams::argument_count(rt);
+    if count < 5 {
+        return said::missing(rt);
     }
-    if 6 < os::arg_count() {
-        return said::too_many();
+    if 6 < count {
+        return said::too_many(rt);
     }
-    answer(&mut text);
+    answer(rt, sheet_files::room(&mut text));
 }
 
 // Reads the sheet's file, and what it has.
-fn answer(text: &mut [u8]) {
+fn answer(rt: HostRuntime, text: &mut [u8]) {
     let a: usize = 0;
-    let got = sheet_files::text_of(1, text);
+    let got = sheet_files::text_of(rt, 1, text);
     let n = got.n;
     if got.whole {
-        judge(&text[a..n]);
+        judge(rt, &text[a..n]);
     }
 }
 
 // The lists of `read`, and nothing else: one call. They are those of `read_back`.
-fn judge(text: &[u8]) {
+fn judge(rt: HostRuntime, text: &[u8]) {
     let mut weights = [0i32; 131072];
     let mut starts = [0u32; 8192];
     let mut sizes = [0u32; 8192];
     let mut excesses = [0i64; 8192];
-    read(text, &mut weights, &mut starts, &mut sizes, &mut excesses);
+    read(
+        rt,
+        text,
+        &mut weights,
+        &mut starts,
+        &mut sizes,
+        &mut excesses,
+    );
 }
 
 // The sheet, read and asked.
 fn read(
+    rt: HostRuntime,
     text: &[u8],
     weights: &mut [i32],
     starts: &mut [u32],
@@ -56,14 +65,15 @@ fn read(
 ) {
     let answer = reader::read_sheet(text, weights, starts, sizes, excesses);
     match answer {
-        Reading::Loaded(head, store) => asked(head, store, weights, starts, sizes, excesses),
-        Reading::TooFew => sheet_files::too_large(),
-        Reading::NotASheet(byte) => sheet_files::refused(text, byte),
+        Reading::Loaded(head, store) => asked(rt, head, store, weights, starts, sizes, excesses),
+        Reading::TooFew => sheet_files::too_large(rt),
+        Reading::NotASheet(byte) => sheet_files::refused(rt, text, byte),
     }
 }
 
 // The place that the third and the fourth argument name.
 fn asked(
+    rt: HostRuntime,
     head: Sizes,
     store: StoreLines,
     weights: &[i32],
@@ -71,12 +81,12 @@ fn asked(
     sizes: &[u32],
     excesses: &[i64],
 ) {
-    let place = numbers::asked_place();
+    let place = figures::asked_place(rt);
     match place {
         Place::At(line, column) => told::story(
-            head, store, line, column, weights, starts, sizes, excesses,
+            rt, head, store, line, column, weights, starts, sizes, excesses,
         ),
-        Place::NoLine => frame_files::no_number(b"line", b"LINE"),
-        Place::NoColumn => frame_files::no_number(b"column", b"COLUMN"),
+        Place::NoLine => frame_files::no_number(rt, b"line", b"LINE"),
+        Place::NoColumn => frame_files::no_number(rt, b"column", b"COLUMN"),
     }
 }

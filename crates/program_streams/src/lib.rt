@@ -1,0 +1,16 @@
+// `program_streams`: what a program has from outside and gives back: the words that it was given, the file that a word names, and its two streams, standard
+// output for the answer and standard error for the reason for a person. No contract says what is read or printed, since none could speak of the
+// streams; every function is safe at every argument.
+#![tactic(auto)]
+
+mod arguments;
+mod failure;
+mod figures;
+mod files;
+mod writing;
+
+pub use arguments::{Length, argument, argument_count, argument_length};
+pub use failure::failed;
+pub use figures::{decimal, hex};
+pub use files::{Part, opened, read_full, read_once};
+pub use writing::{err, err_name, err_number, out, out_byte, out_number, written};
