@@ -7,7 +7,6 @@ exported names, strings, what the kit generates and the library's names keep the
 gets `_fact` behind it, and a definition beside a function of its name `_value`. With --look it only lists what it would rename.
 """
 import glob
-import os
 import re
 import sys
 
@@ -15,7 +14,7 @@ NAME = re.compile(r"(?<![\w'\u2032-])[A-Za-z_][\w'\u2032]*(?:-[\w'\u2032]+)*")
 RT = re.compile(r"""(?P<text>b?"(?:\\.|[^"\\])*"|b?'(?:\\.|[^'\\])[^'\s]{0,8}?')|(?P<note>//[^\n]*)""")
 ANTT = re.compile(r"""(?P<text>"(?:\\.|[^"\\])*")|(?P<note>--[^\n]*)""")
 DECLARED = re.compile(
-    r"^(?:abbrev |unfoldable |pub |opaque )*(?:(record|data) )?([A-Za-z_][\w'\u2032]*(?:-[\w'\u2032]+)*)(?= [:({])|^ +(?:pub )?([A-Za-z_][\w'\u2032]*(?:-[\w'\u2032]+)*) : ",
+    r"^ *(?:abbrev |unfoldable |pub |opaque )*(?:(record|data) )?([A-Za-z_][\w'\u2032]*(?:-[\w'\u2032]+)*)(?= [:({])|^ +(?:pub )?([A-Za-z_][\w'\u2032]*(?:-[\w'\u2032]+)*) : ",
     re.M,
 )
 
@@ -57,7 +56,7 @@ def main():
     # what the files of specs/ and proofs/ declare; a function's own folder (Proof.antt) declares answers, which the kit names
     declared, types, library = set(), set(), {}
     for path in antt:
-        if os.path.basename(path) in ("Proof.antt", "Answers.antt", "Invariants.antt"):
+        if re.search(r"/proofs/.+/(Proof|Answers|Invariants)\.antt$", path):
             continue
         for m in DECLARED.finditer(code[path]):
             name = m.group(2) or m.group(3)
@@ -68,7 +67,7 @@ def main():
     # what each file has from elsewhere
     for path in antt + rt:
         for m in re.finditer(r"use ([^\s;{]+)\.\{([^}]*)\}", code[path]):
-            if not (m.group(1).startswith("Rattle.") and m.group(1).split(".")[1] in ours):
+            if not (m.group(1).startswith("Rattle") and re.split("[.\u00b7]", m.group(1))[1] in ours):
                 for word in m.group(2).split(","):
                     library.setdefault(word.split(" as ")[0].strip(), set()).add(path)
     shared = sorted(declared & set(library))

@@ -20,7 +20,7 @@ def imports(text, crate):
     """Names that a file takes from specs/ of some crate: its own name for it -> (crate, file, name)."""
     found = {}
     for path, names in re.findall(r"\buse\s+(\S+?)\.\{([^}]*)\}", text):
-        m = re.match(r"Rattle·(\w+?)(?:·\w+)?(?:\.specs)\.(\w+)$", path)
+        m = re.match(r"Rattle\.(\w+)\.specs\.(\w+)$", path)
         if m:
             for n in names.split(","):
                 whole, _, other = n.strip().partition(" as ")
@@ -34,9 +34,9 @@ def words(text):
 
 
 def named(text, table):
-    """Which entries of a table of names a text uses; _plus_ is used by writing plus."""
+    """Which entries of a table of names a text uses; ◌plus◌ is used by writing plus."""
     there = words(text)
-    return {table[n] for n in table if n in there or n.strip("_") in there}
+    return {table[n] for n in table if n in there or n.strip("◌") in there}
 
 
 def signatures(text):

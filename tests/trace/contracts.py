@@ -97,5 +97,5 @@ class Contracts:
 
 
 def decides(fn):
-    """The theorem that a function's contract decides its answer: mirror_crop -> mirror-crop-decides, Normalizer16::new -> new-decides."""
-    return (fn.crate, fn.name.split("::")[-1].replace("_", "-") + "-decides")
+    """The theorem that a function's contract decides its answer: mirror_crop -> mirror_crop_decides, Normalizer16::new -> new_decides."""
+    return (fn.crate, fn.name.split("::")[-1] + "_decides")

@@ -87,10 +87,10 @@ def holder(crate, file, at, defs, fns, items):
 class Tree:
     def __init__(self, root):
         self.root = root
-        self.crates = re.findall(r"(?m)^(\w+):", read(root, "crates.txt"))
+        self.crates = re.findall(r"(?m)^(\w+)(?: staticlib)?:", read(root, "crates.txt"))
         every = lambda f: [x for c in self.crates for x in f(root, c)]
         self.defs = {(d.crate, d.file, d.name): d for d in every(definitions)}
-        self.uses = {c: d.split() for c, d in re.findall(r"(?m)^(\w+):(.*)$", read(root, "crates.txt"))}
+        self.uses = {c: d.split() for c, d in re.findall(r"(?m)^(\w+)(?: staticlib)?:(.*)$", read(root, "crates.txt"))}
         # public only so that a sister crate may call them: inner functions for a reader (docs/CONTRACTS.md, "Workers")
         lent = re.findall(r"\w+", " ".join(re.findall(r"(?m)^Workers:(.*)$", read(root, "docs", "CONTRACTS.md"))))
         self.workers = {f.crate + "::" + f.name for f in every(functions) if f.public and f.name in lent}
