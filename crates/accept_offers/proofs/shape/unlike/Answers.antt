@@ -1,3 +1,4 @@
+-- `shape::unlike`: the goals that the check leaves; the argument stands in Invariants.antt. Assumes nothing.
 use mathlib.Core.Path.{◌≡◌, refl}
 use mathlib.Core.Bool.{not}
 use native.Mathlib.Omega.{arith}

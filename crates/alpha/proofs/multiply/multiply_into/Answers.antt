@@ -1,3 +1,4 @@
+-- `multiply::multiply_into`: the goals that the check leaves; the argument stands in Invariants.antt. Assumes nothing.
 use Prim.Native.Nat.{ℕ, ◌*◌, ◌-◌, ◌<◌, ◌≤◌}
 use native.Mathlib.Omega.{arith}
 use lib.ListN.{length, get_or}

@@ -1,3 +1,4 @@
+-- `decimal::point_at`: the goals that the check leaves; the argument stands in Invariants.antt. Assumes nothing.
 use Rattle.std.proofs.Common.{◌≡◌, ◌+◌, ◌-◌, length, sym, refl, ap, ◌∙◌, arith, rules, eq-eqb, ne_eqb}
 use Rattle.lists.specs.Tab.{first}
 use Rattle.lists.proofs.FirstLaws.{first_stop, first_on}

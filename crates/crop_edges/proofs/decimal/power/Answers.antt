@@ -1,3 +1,4 @@
+-- `decimal::power`: the goals that the check leaves; the argument stands in Invariants.antt. Assumes nothing.
 use Rattle.std.proofs.Common.{◌≡◌, ◌^◌, ◌≤◌, refl, arith, lit<, rules}
 use native.Mathlib.Nat.{pow-le-pow_right}
 use native.Mathlib.Numerals.{unary_clauses}

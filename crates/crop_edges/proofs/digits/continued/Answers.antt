@@ -1,3 +1,4 @@
+-- `digits::continued`: the goals that the check leaves; the argument stands in Invariants.antt. Assumes nothing.
 use Rattle.std.proofs.Common.{◌≡◌, refl, arith, rules}
 use Rattle.lists.proofs.TurnLaws.{turns_more}
 use Rattle.numerals.specs.Digits.{numeral, behind}

@@ -1,3 +1,4 @@
+-- `samples::samples_fit`: the goals that the check leaves; the argument stands in Invariants.antt. Assumes nothing.
 use mathlib.Core.Path.{◌≡◌, ◌∙◌, sym, refl, subst}
 use mathlib.Core.List.{List}
 use Prim.Native.Nat.{ℕ, ◌^◌, ◌-◌, ◌≤◌, ◌<◌, ◌*◌, ◌+◌, ◌/◌, zero-le}

@@ -1,3 +1,4 @@
+-- `scan::lines16`: the goals that the check leaves; the argument stands in Invariants.antt. Assumes nothing.
 use Prim.Native.Nat.{ℕ, ◌≤◌, ◌*◌, ◌+◌}
 use native.Mathlib.Omega.{arith}
 use native.Mathlib.Nat.{not-le_of_lt, mul-le-mul}

@@ -1,3 +1,4 @@
+-- `scan::zeros`: the goals that the check leaves; the argument stands in Invariants.antt. Assumes nothing.
 use mathlib.Core.Path.{◌≡◌}
 use Prim.Native.Nat.{◌*◌, ◌+◌, zero-le}
 use native.Mathlib.Omega.{arith}

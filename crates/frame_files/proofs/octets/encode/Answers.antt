@@ -1,3 +1,4 @@
+-- `octets::encode`: the goals that the check leaves; the argument stands in Invariants.antt. Assumes nothing.
 use lib.ListN.{length-set}
 use native.Mathlib.Omega.{arith}
 use Rattle.frame_files.proofs.octets.encode.Goals as goal

@@ -1,3 +1,4 @@
+-- `weights::finish`: the goals that the check leaves; the argument stands in Invariants.antt. Assumes nothing.
 use native.Mathlib.Nat.{le_refl}
 use mathlib.Core.List.{List}
 use mathlib.Core.Path.{◌≡◌, ◌∙◌, ap}

@@ -1,3 +1,4 @@
+-- `weights::lead`: the goals that the check leaves; the argument stands in Invariants.antt. Assumes nothing.
 use Prim.Native.Nat.{◌-◌, ◌+◌}
 use mathlib.Core.Path.{ap, ◌≡◌, refl, sym, ◌∙◌}
 use mathlib.Core.Bool.{not, true, false}

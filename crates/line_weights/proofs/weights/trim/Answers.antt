@@ -1,3 +1,4 @@
+-- `weights::trim`: the goals that the check leaves; the argument stands in Invariants.antt. Assumes nothing.
 use mathlib.Core.Bool.{not}
 use Rattle.line_weights.proofs.WeightLaws.{up_stop, up_on}
 use mathlib.Core.Path.{◌≡◌, refl, sym, ◌∙◌, ap}

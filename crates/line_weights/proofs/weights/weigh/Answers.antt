@@ -1,3 +1,4 @@
+-- `weights::weigh`: the goals that the check leaves; the argument stands in Invariants.antt. Assumes nothing.
 use Prim.Native.Nat.{ℕ, ◌<◌, ◌+◌}
 use mathlib.Core.Path.{◌≡◌, refl, sym, ◌∙◌, ap}
 use mathlib.Core.List.{List}

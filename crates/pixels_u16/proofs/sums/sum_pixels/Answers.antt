@@ -1,3 +1,4 @@
+-- `sums::sum_pixels`: the goals that the check leaves; the argument stands in Invariants.antt. Assumes nothing.
 use mathlib.Core.Path.{◌≡◌, ◌∙◌, ap, refl}
 use Prim.Native.Nat.{ℕ, ◌^◌, ◌≤◌, ◌<◌, ◌*◌}
 use native.Mathlib.Nat.{zero-add, mul-le-mul}

@@ -1,3 +1,4 @@
+-- `lines::all_windows`: the goals that the check leaves; the argument stands in Invariants.antt. Assumes nothing.
 use mathlib.Core.Path.{◌≡◌, sym, ap, ◌∙◌}
 use mathlib.Core.Bool.{true, false}
 use mathlib.Core.List.{◌++◌}

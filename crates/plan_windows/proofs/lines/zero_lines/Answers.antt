@@ -1,3 +1,4 @@
+-- `lines::zero_lines`: the goals that the check leaves; the argument stands in Invariants.antt. Assumes nothing.
 use mathlib.Core.Path.{◌≡◌, refl}
 use Rattle.lists.proofs.TabLaws.{written_none, written_more}
 use borrow.Author.Rules.{rules}

@@ -1,3 +1,4 @@
+-- `sums::add16`: the goals that the check leaves; the argument stands in Invariants.antt. Assumes nothing.
 use mathlib.Core.Path.{◌≡◌, ◌∙◌, refl}
 use mathlib.Core.Bool.{not}
 use mathlib.Core.List.{List}

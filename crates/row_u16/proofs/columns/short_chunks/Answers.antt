@@ -1,3 +1,4 @@
+-- `columns::short_chunks`: the goals that the check leaves; the argument stands in Invariants.antt. Assumes nothing.
 use Prim.Native.Nat.{◌-◌, ◌≤◌, ◌+◌}
 use native.Mathlib.Omega.{arith}
 use lib.Dec.{lit≤}

@@ -1,3 +1,4 @@
+-- `doubles::sums16`: the goals that the check leaves; the argument stands in Invariants.antt. Assumes nothing.
 use mathlib.Core.Path.{◌≡◌, ◌∙◌, ap, refl}
 use Prim.Native.Nat.{◌^◌, ◌<◌, ◌*◌, ◌+◌}
 use native.Mathlib.Omega.{arith}

@@ -1,3 +1,4 @@
+-- `digits::goes_on`: the goals that the check leaves; the argument stands in Invariants.antt. Assumes nothing.
 use Prim.Native.Nat.{ℕ, ◌+◌, ◌*◌, ◌^◌, ◌≤◌}
 use native.Mathlib.Nat.{pow-zero, pow-suc, mul-one, mul_assoc}
 use native.Mathlib.Numerals.{add-one}

@@ -1,3 +1,4 @@
+-- `keeping::copy`: the goals that the check leaves; the argument stands in Invariants.antt. Assumes nothing.
 use borrow.Author.Rules.{rules}
 use mathlib.Core.Path.{◌≡◌, refl, ◌∙◌, ap}
 use Prim.Native.Nat.{ℕ}

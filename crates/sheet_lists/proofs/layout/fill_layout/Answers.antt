@@ -1,3 +1,4 @@
+-- `layout::fill_layout`: the goals that the check leaves; the argument stands in Invariants.antt. Assumes nothing.
 use native.Mathlib.Omega.{arith}
 use mir.Facts.{to_z-of_z}
 use mir.Syntax.{w64}

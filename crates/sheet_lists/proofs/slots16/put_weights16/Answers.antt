@@ -1,3 +1,4 @@
+-- `slots16::put_weights16`: the goals that the check leaves; the argument stands in Invariants.antt. Assumes nothing.
 use lib.IntN.{pos}
 use mir.Syntax.{w16}
 use Rattle.sheet_scan.proofs.RowLaws.{apart_item}

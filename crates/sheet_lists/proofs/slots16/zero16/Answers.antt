@@ -1,3 +1,4 @@
+-- `slots16::zero16`: the goals that the check leaves; the argument stands in Invariants.antt. Assumes nothing.
 use mathlib.Core.Path.{◌≡◌, refl, ◌∙◌}
 use lib.ListN.{length}
 use Rattle.lists.proofs.TabLaws.{written_none, written_more, front_whole}

@@ -1,3 +1,4 @@
+-- `slots32::put_weights32`: the goals that the check leaves; the argument stands in Invariants.antt. Assumes nothing.
 use lib.IntN.{pos}
 use mir.Syntax.{w32}
 use Rattle.sheet_scan.proofs.RowLaws.{apart_item}

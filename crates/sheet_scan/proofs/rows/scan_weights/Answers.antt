@@ -1,3 +1,4 @@
+-- `rows::scan_weights`: the goals that the check leaves; the argument stands in Invariants.antt. Assumes nothing.
 use mathlib.Core.Path.{sym, ap, ◌∙◌, subst}
 use Rattle.scan.specs.Number.{NoDigit}
 use Rattle.scan.specs.Answer.{signed_place}

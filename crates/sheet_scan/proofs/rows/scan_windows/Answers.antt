@@ -1,3 +1,4 @@
+-- `rows::scan_windows`: the goals that the check leaves; the argument stands in Invariants.antt. Assumes nothing.
 use mathlib.Core.Path.{ap, ◌∙◌}
 use Prim.Native.Nat.{◌<◌, ◌^◌}
 use Rattle.scan.specs.Answer.{pass_place}

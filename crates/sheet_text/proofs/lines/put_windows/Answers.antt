@@ -1,3 +1,4 @@
+-- `lines::put_windows`: the goals that the check leaves; the argument stands in Invariants.antt. Assumes nothing.
 use mathlib.Core.Path.{◌≡◌, sym}
 use Prim.Native.Nat.{◌≤◌, ◌+◌}
 use native.Mathlib.Nat.{zero-mul}

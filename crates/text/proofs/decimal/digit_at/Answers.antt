@@ -1,3 +1,4 @@
+-- `decimal::digit_at`: the goals that the check leaves; the argument stands in Invariants.antt. Assumes nothing.
 use mathlib.Core.Path.{◌≡◌}
 use Prim.Native.Nat.{◌≤◌, ◌-◌, ◌/◌, ◌^◌}
 use native.Mathlib.Nat.{div-one, pow-suc, div-div-eq-div-mul}

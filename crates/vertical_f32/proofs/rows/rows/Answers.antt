@@ -1,3 +1,4 @@
+-- `rows::rows`: the goals that the check leaves; the argument stands in Invariants.antt. Assumes nothing.
 use mathlib.Core.Path.{◌≡◌, ◌∙◌, refl, sym, subst}
 use Prim.Native.Nat.{ℕ, ◌<◌, ◌*◌, ◌+◌, ◌/◌, ◌^◌, zero-le}
 use native.Mathlib.Omega.{arith}

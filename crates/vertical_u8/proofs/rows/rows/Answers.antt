@@ -1,3 +1,4 @@
+-- `rows::rows`: the goals that the check leaves; the argument stands in Invariants.antt. Assumes nothing.
 use native.Mathlib.Omega.{arith}
 use Rattle.vertical.proofs.Turns.{window_there}
 use Rattle.vertical.proofs.RowTurns.{rows_none, rows_all, slots_are, slots_size, turn_lines, turn_low, turn}

@@ -1,3 +1,4 @@
+-- `finding::largest`: the goals that the check leaves; the argument stands in Invariants.antt. Assumes nothing.
 use Rattle.std.proofs.Common.{◌≡◌, ℕ, ◌<◌, List, [], ◌∷◌, length, get_or, refl, ap, ◌∙◌, add-one, arith}
 use lib.Ieee.{Float, nan}
 use Rattle.lists.specs.Tab.{turns}

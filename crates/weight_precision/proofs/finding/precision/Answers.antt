@@ -1,3 +1,4 @@
+-- `finding::precision`: the goals that the check leaves; the argument stands in Invariants.antt. Assumes nothing.
 use Rattle.std.proofs.Common.{◌≡◌, ◌+◌, ◌-◌, sym, refl, ◌∙◌, arith}
 use native.Mathlib.Nat.{sub-zero}
 use Rattle.lists.proofs.FirstLaws.{first_stop, first_on}

@@ -1,3 +1,4 @@
+-- `serving::some_outside`: the goals that the check leaves; the argument stands in Invariants.antt. Assumes nothing.
 use Rattle.std.proofs.Common.{◌≡◌, length, refl, add-one, arith}
 use Rattle.weight_precision.proofs.serving.some_outside.Goals as goal
 

@@ -1,3 +1,4 @@
+-- `slots32::write32`: the goals that the check leaves; the argument stands in Invariants.antt. Assumes nothing.
 use Rattle.std.proofs.Common.{◌≡◌, Bool, cond, length, get_or, pos, ap, ◌∙◌, arith, to_z-of_z, w32}
 use Rattle.lists.proofs.TabLaws.{written_none, written_more}
 use Rattle.lists.proofs.AnyLaws.{any_none}
