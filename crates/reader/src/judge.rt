@@ -39,6 +39,7 @@ fn too_few(v: Sizes, slots: usize, starts: usize, sizes: usize, excesses: usize)
 }
 
 // What the text is. Too few slots are told as soon as the size lines are right, before what comes after them is looked at.
+#[tactic(auto, using(crate::proofs::ReadLaws::judged_short))]
 pub(crate) fn judge(
     wide: bool,
     text: &[u8],
