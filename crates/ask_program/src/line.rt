@@ -65,11 +65,6 @@ fn begins(line: &[u8], letter: u8) -> bool {
     line[0] == letter
 }
 
-// The room of a text as a list: where it is borrowed its length stands in its type, and need not be counted from its zeros.
-fn room_list(room: &mut [u8; 524288]) -> &mut [u8] {
-    room
-}
-
 // The lists of `ask_alpha::answer`, and nothing else: one call.
 fn pixels(rt: HostRuntime, line: &[u8], a: Said, out: &mut [u8]) -> Said {
     if a.done {
@@ -80,7 +75,14 @@ fn pixels(rt: HostRuntime, line: &[u8], a: Said, out: &mut [u8]) -> Said {
     }
     let mut bytes = [0u8; 131072];
     let mut room = [0u8; 524288];
-    ask_alpha::answer(rt, line, a, out, &mut bytes, room_list(&mut room))
+    ask_alpha::answer(
+        rt,
+        line,
+        a,
+        out,
+        &mut bytes,
+        program_streams::room(&mut room),
+    )
 }
 
 // The lists of `ask_alpha_u16::answer`, and nothing else: one call.
@@ -244,7 +246,7 @@ fn sheets(rt: HostRuntime, line: &[u8], a: Said, out: &mut [u8]) -> Said {
         &mut starts,
         &mut sizes,
         &mut excesses,
-        room_list(&mut room),
+        program_streams::room(&mut room),
     )
 }
 
@@ -272,7 +274,7 @@ fn stories(rt: HostRuntime, line: &[u8], a: Said, out: &mut [u8]) -> Said {
         &mut sizes,
         &mut excesses,
         &mut samples,
-        room_list(&mut room),
+        program_streams::room(&mut room),
     )
 }
 

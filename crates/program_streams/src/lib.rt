@@ -7,10 +7,12 @@ mod arguments;
 mod failure;
 mod figures;
 mod files;
+mod rooms;
 mod writing;
 
 pub use arguments::{Length, argument, argument_count, argument_length};
 pub use failure::failed;
 pub use figures::{decimal, hex};
 pub use files::{Part, opened, read_full, read_once};
+pub use rooms::room;
 pub use writing::{err, err_name, err_number, out, out_byte, out_number, written};

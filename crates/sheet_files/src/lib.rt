@@ -13,6 +13,7 @@ ghost use Rattle.std.specs.Prelude.{◌≤◌, length};
 
 use file::{Ends, Input};
 pub use marked::{refused, stopped};
+pub use program_streams::room;
 pub use unread::{missing, too_large};
 
 // How many bytes were read, and whether they are the whole of a file; where they are not, why has been said.
@@ -27,11 +28,6 @@ fn none() -> Brought
     ensures { result.n ≤ 0 }
 {
     Brought { n: 0, whole: false }
-}
-
-// A text's room as a list. Where it is borrowed its length stands in its type, and need not be counted from its zeros.
-pub fn room(text: &mut [u8; 524288]) -> &mut [u8] {
-    text
 }
 
 // What was read of the file that argument i names.

@@ -6,11 +6,6 @@ use normalizer::Normalized;
 use refusal::Refusal;
 use sheet::Sheet;
 
-// The room of a text as a list: where it is borrowed its length stands in its type, and need not be counted from its zeros.
-fn room_list(room: &mut [u8; 524288]) -> &mut [u8] {
-    room
-}
-
 // In the 16-bit store.
 pub(crate) fn sheet16(
     rt: HostRuntime,
@@ -57,7 +52,7 @@ pub(crate) fn sheet16(
         starts,
         sizes,
         &excesses[a..m],
-        room_list(&mut text),
+        program_streams::room(&mut text),
     );
     show(rt, asked, written, &text);
 }
@@ -108,7 +103,7 @@ pub(crate) fn sheet32(
         starts,
         sizes,
         &excesses[a..m],
-        room_list(&mut text),
+        program_streams::room(&mut text),
     );
     show(rt, asked, written, &text);
 }
