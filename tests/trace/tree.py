@@ -19,13 +19,18 @@ def functions(root, crate):
     for name in sorted(os.listdir(here)):
         text = read(here, name)
         table = imports(text, crate)
-        owner, place, fn = "", 0, None
+        owner, place, fn, lent = "", 0, None, None
         for line in text.splitlines(True):
-            m = re.match(r"impl (\w+)", line)
-            owner = m.group(1) + "::" if m else "" if line.startswith("}") else owner
+            m = re.match(r"impl(?:<[^{]*?>)? (\w+)(?: for ([A-Z]\w*))?", line)
+            owner = (m.group(2) or m.group(1)) + "::" if m else "" if line.startswith("}") else owner
+            # the clause of a trait's function stands at the trait; an impl says by its ghost members which definitions it speaks of
+            lent = set() if m and m.group(2) else lent if owner and not m else None
+            m = re.match(r"    ghost \w+ = \{(.*)\};", line)
+            if m and lent is not None:
+                lent |= named(m.group(1), table)
             m = re.match(r"(\s*)(pub(?:\(crate\))? )?(?:extern \"C\" )?fn (\w+)", line)
             if m:
-                fn = [owner + m.group(3), m.group(2) == "pub ", {}, set(), place, m.group(1)]
+                fn = [owner + m.group(3), m.group(2) == "pub " or bool(lent), {"answer": set(lent)} if lent else {}, set(), place, m.group(1)]
             m = fn and re.match(r"\s*(ensures|requires)\s*(\w*)\s*\{(.*)", line)
             if m and m.group(1) == "ensures":
                 if m.group(2) or not fn[1]:  # a public one without a name is a bound that a caller's safety rests on, and no contract
@@ -44,7 +49,8 @@ def constants(root, crate):
     for file in sorted(os.listdir(here)):
         text = read(here, file)
         for m in re.finditer(r"(?ms)^( *)(?:pub(?:\(crate\))? )?(?:const|static) (\w+)\b.*?;$", text):
-            owner = re.findall(r"(?m)^impl (\w+)", text[:m.start()])[-1] + "::" if m.group(1) else ""
+            owners = re.findall(r"(?m)^(?:pub )?(?:impl(?:<[^>]*>)?|trait) (\w+)", text[:m.start()])
+            owner = owners[-1] + "::" if m.group(1) and owners else ""
             yield file, owner + m.group(2), m.start(), m.end()
 
 

@@ -1,10 +1,10 @@
 -- The contracts of the judge of an offer decide its answer and what weights and excesses hold. Assumes nothing.
 use mathlib.Core.Path.{◌≡◌, ◌∙◌, sym}
 use Rattle.lists.proofs.Sure.{Decides}
-use Rattle.accept_offers.proofs.accept16.accept_offer16.Kinds as accept16
-use Rattle.accept_offers.proofs.accept16.accept_offer16.Reads as accept16-reads
-use Rattle.accept_offers.proofs.accept32.accept_offer32.Kinds as accept32
-use Rattle.accept_offers.proofs.accept32.accept_offer32.Reads as accept32-reads
+use Rattle.accept_offers.proofs.accept.accept_offer16.Kinds as accept16
+use Rattle.accept_offers.proofs.accept.accept_offer16.Reads as accept16-reads
+use Rattle.accept_offers.proofs.accept.accept_offer32.Kinds as accept32
+use Rattle.accept_offers.proofs.accept.accept_offer32.Reads as accept32-reads
 
 pub accept_offer16_decides : Decides accept16.ps accept16.r accept16-reads.Post (λ κs s t. (s.1.1.1.0.now ≡ t.1.1.1.0.now) × (s.1.1.1.1.1.1.0.now ≡ t.1.1.1.1.1.1.0.now))
 accept_offer16_decides κs a x y s t p q = (p.0 ∙ sym q.0, (p.1.0 ∙ sym q.1.0, p.1.1 ∙ sym q.1.1))

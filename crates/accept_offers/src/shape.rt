@@ -32,10 +32,8 @@ fn unlike(a: &[u32], b: &[u32]) -> bool
         return true;
     }
     let mut bad = false;
-    let mut k: usize = 0;
-    while k < a.len() {
+    for k in 0..a.len() {
         bad = bad | (a[k] != b[k]);
-        k += 1;
     }
     bad
 }

@@ -7,9 +7,8 @@ use native.Mathlib.Omega.{arith}
 use lib.Dec.{eqb}
 use lib.ListN.{length, get_or}
 use Rattle.lists.proofs.TabLaws.{Written}
-use Rattle.colours.specs.Alpha.{multiplied, reciprocal, quotient, divided}
 use Rattle.pixel_lists.specs.Lists.{component_at}
-use Rattle.alpha.specs.Words.{word, word_at, on_colours, stored_word}
+use Rattle.alpha.specs.Words.{word, word_at, on_colours, stored_word, Changes}
 use Rattle.pixel_lists.proofs.PixelLaws.{colour, kept, pixel_more, still}
 
 -- a word's bytes
@@ -33,15 +32,11 @@ module _ (src : List ℕ) (small : (k : ℕ) → get_or src k 0 < 256) (q : ℕ)
       bytes (word_at src (q * 4)) (get_or src (q * 4) 0) (get_or src (q * 4 + 1) 0) (get_or src (q * 4 + 2) 0) (get_or src (q * 4 + 3) 0) refl
       (small (q * 4)) (small (q * 4 + 1)) (small (q * 4 + 2)) (small (q * 4 + 3))
 
-  -- the word that each operation's function gives, said with the alpha of the list
-  pub multiplied_word : (x w : ℕ) → x ≡ word_at src (q * 4) → w ≡ on_colours (λ c. multiplied c (x / 16777216)) x → w ≡ on_colours (λ c. multiplied c (get_or src (q * 4 + 3) 0)) (word_at src (q * 4))
-  multiplied_word x w e-x e-w =
-      e-w ∙ ap (λ (y : ℕ). on_colours (λ c. multiplied c (y / 16777216)) y) e-x
-      ∙ ap (λ (a : ℕ). on_colours (λ c. multiplied c a) (word_at src (q * 4))) pixel_bytes.last
-
-  pub divided_word : (x w r : ℕ) → x ≡ word_at src (q * 4) → r ≡ reciprocal (get_or src (q * 4 + 3) 0) → w ≡ on_colours (λ c. quotient c r) x → w ≡ on_colours (λ c. divided c (get_or src (q * 4 + 3) 0)) (word_at src (q * 4))
-  divided_word x w r e-x e-r e-w =
-      e-w ∙ ap (λ (y : ℕ). on_colours (λ c. quotient c r) y) e-x ∙ ap (λ (y : ℕ). on_colours (λ c. quotient c y) (word_at src (q * 4))) e-r
+  -- the word that a change gives, said with the list
+  pub changed_word : (op : ℕ → ℕ → ℕ) {post : ℕ → ℕ → ℕ → Type 0} {x y : ℕ} → Changes op post → x ≡ word_at src (q * 4) → post x (get_or src (q * 4 + 3) 0) y → y ≡ on_colours (λ c. op c (get_or src (q * 4 + 3) 0)) (word_at src (q * 4))
+  changed_word op {x = x} {y = y} changes e p =
+      let alpha = get_or src (q * 4 + 3) 0 in
+      changes.is x alpha y (ap (λ (w : ℕ). w / 16777216) e ∙ pixel_bytes.last) p ∙ ap (on_colours (λ c. op c alpha)) e
 
   module _ (op : ℕ → ℕ → ℕ) (byte : (c a : ℕ) → c < 256 → a < 256 → op c a < 256) where
     component_byte : (k : ℕ) → component_at op src k < 256

@@ -3,6 +3,7 @@
 #![tactic(auto)]
 
 mod divide;
+mod loops;
 mod multiply;
 mod pixels;
 mod recip;

@@ -1,10 +1,11 @@
-// Multiplication's loops over the pixels of a list: a pixel is read whole, changed as a word and written whole.
+// Multiplication of every pixel of a list.
 ghost use Rattle.std.specs.Prelude.{◌≡◌, ◌%◌, length};
 ghost use Rattle.lists.specs.Tab.{tab};
 ghost use Rattle.colours.specs.Alpha.{multiplied};
 ghost use Rattle.pixel_lists.specs.Lists.{component_at};
 
-use crate::pixels::{load4, multiplied_pixel, store4};
+use crate::loops::{change_into, change_within};
+use crate::pixels::multiplied_pixel;
 
 // Every pixel of src into dst.
 pub(crate) fn multiply_into(src: &[u8], dst: &mut [u8])
@@ -12,12 +13,7 @@ pub(crate) fn multiply_into(src: &[u8], dst: &mut [u8])
     requires src_len_2 { length src.now % 4 ≡ 0 }
     ensures written { dst.new ≡ tab 0 (length src.now) (component_at multiplied src.now) }
 {
-    let n = dst.len() / 4;
-    let mut q: usize = 0;
-    while q < n {
-        store4(dst, q * 4, multiplied_pixel(load4(src, q * 4)));
-        q += 1;
-    }
+    change_into(|x, _| multiplied_pixel(x), src, dst);
 }
 
 // Every pixel where it stands.
@@ -25,10 +21,5 @@ pub(crate) fn multiply_within(pixels: &mut [u8])
     requires { length pixels.old % 4 ≡ 0 }
     ensures written { pixels.new ≡ tab 0 (length pixels.old) (component_at multiplied pixels.old) }
 {
-    let n = pixels.len() / 4;
-    let mut q: usize = 0;
-    while q < n {
-        store4(pixels, q * 4, multiplied_pixel(load4(pixels, q * 4)));
-        q += 1;
-    }
+    change_within(|x, _| multiplied_pixel(x), pixels);
 }

@@ -1,5 +1,5 @@
 -- The lent list after a call, 16 bits: `pixel_lists`' rule with the operations of 16. Cited by the contracts of the four list functions. Definitions only. Assumes nothing.
-use Rattle.std.specs.Prelude.{Bool, true, false, List, ℕ}
+use Rattle.std.specs.Prelude.{List, ℕ}
 use Rattle.pixel_lists.specs.Lists.{applied_list}
 use Rattle.colours_u16.specs.Alpha.{multiplied, divided}
 
@@ -8,8 +8,3 @@ multiplied_list = applied_list multiplied
 
 unfoldable pub divided_list : List ℕ → List ℕ → List ℕ
 divided_list = applied_list divided
-
--- what the loops do to a colour and its alpha
-abbrev pub operation : Bool → ℕ → ℕ → ℕ
-operation true = divided
-operation false = multiplied

@@ -1,49 +1,35 @@
 // The request `fit SW SH DW DH none`, or with two centring numbers in place of `none`.
-use answer_lines::{Said, emit};
+use answer_lines::Output;
 use crop_box::CropBox;
-use crop_fit::{Centring, Fitted};
-use request_fields::{Fault, fields};
+use refusal::Numbered;
+use request_fields::{Element, Fault, Kind, Words};
 
-// The line's first fault, with a centring or without.
-fn fault_of(none: bool, line: &[u8]) -> Fault {
-    if none {
-        return request_fields::first_fault(line, b"wwwwk");
+// The centring, the last fields.
+fn centring(words: &mut Words<'_>) -> Result<Option<(f64, f64)>, Fault> {
+    let first = words.word()?;
+    if first == b"none".as_slice() {
+        return Ok(None);
     }
-    request_fields::first_fault(line, b"wwwwxx")
+    let x = f64::read(first).ok_or(words.not(Kind::F64))?;
+    Ok(Some((x, words.number()?)))
 }
 
-// Words 5 and 6 as the centring.
-fn centring(none: bool, line: &[u8]) -> Centring {
-    if none {
-        return Centring::Absent;
-    }
-    Centring::At(fields::double(line, 5), fields::double(line, 6))
-}
-
-// The line's answer.
-pub(crate) fn fit(rt: HostRuntime, line: &[u8], n: usize, out: &mut [u8]) -> Said {
-    let none = fields::is(line, 5, b"none");
-    let f = fault_of(none, line);
-    if f.reason != 0 {
-        return answer_lines::told(answer_lines::bad(rt, f.word, f.reason, n, out));
-    }
-    let place = centring(none, line);
-    let fitted = crop_fit::fit_src_into_dst_size(
-        fields::whole(line, 1),
-        fields::whole(line, 2),
-        fields::whole(line, 3),
-        fields::whole(line, 4),
-        place,
-    );
-    show(rt, fitted.number(), box_of(fitted), n, out)
-}
-
-// The box, or the four numbers beside a refusal.
-fn box_of(fitted: Fitted) -> CropBox {
-    match fitted {
-        Fitted::Fit(b) => b,
-        Fitted::Refused(_) => no_box(),
-    }
+// The line's answer: a number and the box.
+pub(crate) fn fit(mut words: Words<'_>, out: &mut Output<'_>) -> Result<bool, Fault> {
+    let source_width = words.number()?;
+    let source_height = words.number()?;
+    let width = words.number()?;
+    let height = words.number()?;
+    let place = centring(&mut words)?;
+    words.end()?;
+    let fitted = crop_fit::fit_src_into_dst_size(source_width, source_height, width, height, place);
+    out.show(fitted.number());
+    let b = fitted.unwrap_or(no_box());
+    out.next(b.left);
+    out.next(b.top);
+    out.next(b.width);
+    out.next(b.height);
+    Ok(true)
 }
 
 // The four numbers beside a refusal.
@@ -54,13 +40,4 @@ fn no_box() -> CropBox {
         width: 0.0,
         height: 0.0,
     }
-}
-
-// A number and four doubles.
-fn show(rt: HostRuntime, no: u32, b: CropBox, n: usize, out: &mut [u8]) -> Said {
-    let p = emit::whole(rt, no, n, out);
-    let q = emit::next_double(rt, b.left, p, out);
-    let r = emit::next_double(rt, b.top, q, out);
-    let s = emit::next_double(rt, b.width, r, out);
-    answer_lines::told(emit::next_double(rt, b.height, s, out))
 }

@@ -3,53 +3,43 @@
 
 mod fitting;
 
-use answer_lines::{Said, emit};
-use filter_fields::Kind;
-use filters::Picked;
-use request_fields::fields;
+use answer_lines::Output;
+use filter_fields::Name;
+use refusal::Numbered;
+use request_fields::{Fault, Words};
 
-// The line's answer, where it is one of these requests.
-pub fn answer(rt: HostRuntime, line: &[u8], s: Said, out: &mut [u8]) -> Said {
-    if s.done {
-        return s;
+// Whether the line is one of these requests, which is answered then.
+pub fn answer(line: &[u8], out: &mut Output<'_>) -> Result<bool, Fault> {
+    let mut words = Words::new(line);
+    match words.word()? {
+        b"filter" => filter(words, out),
+        b"crop" => crop(words, out),
+        b"fit" => fitting::fit(words, out),
+        _ => Ok(false),
     }
-    if fields::is(line, 0, b"filter") {
-        return filter(rt, line, s.n, out);
-    }
-    if fields::is(line, 0, b"crop") {
-        return crop(rt, line, s.n, out);
-    }
-    if fields::is(line, 0, b"fit") {
-        return fitting::fit(rt, line, s.n, out);
-    }
-    s
 }
 
 // filter KIND X, KIND being one that can be built with
-fn filter(rt: HostRuntime, line: &[u8], n: usize, out: &mut [u8]) -> Said {
-    let f = request_fields::first_fault(line, b"kx");
-    if f.reason != 0 {
-        return answer_lines::told(answer_lines::bad(rt, f.word, f.reason, n, out));
-    }
-    let kind_read = filter_fields::kind_at(line, 1);
-    let Kind::Is(kind) = kind_read else {
-        return answer_lines::told(answer_lines::bad(rt, 2, b'k', n, out));
-    };
+fn filter(mut words: Words<'_>, out: &mut Output<'_>) -> Result<bool, Fault> {
+    let name = Name::read(&mut words)?;
+    let x = words.number()?;
+    words.end()?;
+    let kind = name.filter()?;
     let picked = filters::pick(kind);
-    let Picked::Is(f) = picked else {
-        return answer_lines::told(answer_lines::bad(rt, 2, b'k', n, out));
+    let Some(f) = picked else {
+        return Err(name.fault());
     };
-    let x = filters::value(f, fields::double(line, 2));
-    answer_lines::told(emit::double(rt, x, n, out))
+    out.show(filters::value(f, x));
+    Ok(true)
 }
 
 // crop SW SH L T W H
-fn crop(rt: HostRuntime, line: &[u8], n: usize, out: &mut [u8]) -> Said {
-    let f = request_fields::first_fault(line, b"wwxxxx");
-    if f.reason != 0 {
-        return answer_lines::told(answer_lines::bad(rt, f.word, f.reason, n, out));
-    }
-    let b = filter_fields::box_at(line, 3, 4, 5, 6);
-    let answer = crop_box::crop(fields::whole(line, 1), fields::whole(line, 2), b);
-    answer_lines::told(emit::whole(rt, answer.number(), n, out))
+fn crop(mut words: Words<'_>, out: &mut Output<'_>) -> Result<bool, Fault> {
+    let width = words.number()?;
+    let height = words.number()?;
+    let b = filter_fields::crop(&mut words)?;
+    words.end()?;
+    let answer = crop_box::crop(width, height, b);
+    out.show(answer.number());
+    Ok(true)
 }

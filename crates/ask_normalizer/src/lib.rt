@@ -1,48 +1,45 @@
-// The requests `norm16` and `norm32`, answered by `normalizer`.
+// The requests `norm16` and `norm32`, then LINES WINDOW WEIGHTS STARTS SIZES NOUT NEXCESSES, answered by `normalizer`.
 #![tactic(auto)]
 
-mod norm16;
-mod norm32;
+use answer_lines::{Output, Show};
+use refusal::Numbered;
+use request_fields::{Element, Fault, Words};
+use windows::Weight;
 
-use answer_lines::{Said, emit};
-use normalizer::Normalized;
-use request_fields::fields;
-
-// The line's answer, where it is one of these requests.
-pub fn answer(
-    rt: HostRuntime,
-    line: &[u8],
-    s: Said,
-    out: &mut [u8],
-    weights: &mut [f64],
-    starts: &mut [u32],
-    sizes: &mut [u32],
-    narrow: &mut [i16],
-    wide: &mut [i32],
-    excesses: &mut [i64],
-) -> Said {
-    if s.done {
-        return s;
+// Whether the line is one of these requests, which is answered then.
+pub fn answer(line: &[u8], out: &mut Output<'_>) -> Result<bool, Fault> {
+    let mut words = Words::new(line);
+    match words.word()? {
+        b"norm16" => normalize(words, &mut [0i16; 131072], out),
+        b"norm32" => normalize(words, &mut [0i32; 131072], out),
+        _ => Ok(false),
     }
-    if fields::is(line, 0, b"norm16") {
-        return norm16::of_line(rt, line, s.n, out, weights, starts, sizes, narrow, excesses);
-    }
-    if fields::is(line, 0, b"norm32") {
-        return norm32::of_line(rt, line, s.n, out, weights, starts, sizes, wide, excesses);
-    }
-    s
 }
 
-// The number of the answer, and the precision.
-pub(crate) fn show(rt: HostRuntime, answer: Normalized, n: usize, out: &mut [u8]) -> usize {
-    let p = emit::whole(rt, answer.number(), n, out);
-    emit::next_whole(rt, precision(answer), p, out)
-}
-
-// The precision, 0 beside a refusal.
-fn precision(answer: Normalized) -> u32 {
-    match answer {
-        Normalized::Done(precision) => precision,
-        Normalized::Refused(_) => 0,
-    }
+// The number, the precision and the two lists that are lent.
+fn normalize<W: Weight + Element + Show>(
+    mut words: Words<'_>,
+    lent: &mut [W],
+    out: &mut Output<'_>,
+) -> Result<bool, Fault> {
+    let mut weights = [0.0f64; 131072];
+    let mut starts = [0u32; 131072];
+    let mut sizes = [0u32; 131072];
+    let mut excesses = [0i64; 131072];
+    let lines = words.number()?;
+    let window = words.number()?;
+    let weights = words.list(&mut weights)?;
+    let starts = words.list(&mut starts)?;
+    let sizes = words.list(&mut sizes)?;
+    let lent = words.lent(lent)?;
+    let excesses = words.lent(&mut excesses)?;
+    words.end()?;
+    let answer = normalizer::normalize(lines, window, weights, starts, sizes, lent, excesses);
+    out.show(answer.number());
+    out.next(answer.unwrap_or(0));
+    out.byte(b' ');
+    out.list(lent);
+    out.byte(b' ');
+    out.list(excesses);
+    Ok(true)
 }

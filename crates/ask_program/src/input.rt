@@ -1,141 +1,99 @@
-// Standard input, line by line, in a buffer. A line that does not fit is forgotten as it is read, and answered as too long.
-use crate::buffer;
+// Standard input, line by line, in a buffer.
+use std::io::Read;
 
-// The bytes at .. end are read and not yet answered. `whole`: the bytes at .. to are a line to be answered; `long`: they are the rest of one that
-// did not fit; `done`: the input has ended, and nothing is left. n is the output's place.
+// What a step came to. A line that did not fit into the buffer was forgotten as it was read.
 #[derive(Clone, Copy)]
-pub(crate) struct State {
-    pub(crate) at: usize,
-    pub(crate) to: usize,
-    pub(crate) end: usize,
-    pub(crate) whole: bool,
-    pub(crate) long: bool,
-    pub(crate) done: bool,
-    pub(crate) n: usize,
+pub(crate) enum Step {
+    // the bytes from .. to of the buffer are a line to be answered
+    Line { from: usize, to: usize },
+    TooLong,
+    More,
+    End,
 }
 
-// Before anything is read.
-pub(crate) fn first() -> State {
-    State {
-        at: 0,
-        to: 0,
-        end: 0,
-        whole: false,
-        long: false,
-        done: false,
-        n: 0,
-    }
+// The bytes at .. end are read and not yet answered; behind a beginning that was forgotten, where the line is `long`. `done`: the input has ended.
+#[derive(Drop)]
+pub(crate) struct Input<'a> {
+    rt: HostRuntime,
+    buffer: &'a mut [u8],
+    at: usize,
+    end: usize,
+    long: bool,
+    done: bool,
 }
 
-// The end.
-fn ended(n: usize) -> State {
-    State {
-        at: 0,
-        to: 0,
-        end: 0,
-        whole: false,
-        long: false,
-        done: true,
-        n: n,
+impl<'a> Input<'a> {
+    // Before anything is read.
+    pub(crate) fn new(rt: HostRuntime, buffer: &'a mut [u8]) -> Input<'a> {
+        Input {
+            rt,
+            buffer,
+            at: 0,
+            end: 0,
+            long: false,
+            done: false,
+        }
     }
-}
 
-// A line to be answered.
-fn whole(at: usize, to: usize, end: usize, long: bool, done: bool, n: usize) -> State {
-    State {
-        at: at,
-        to: to,
-        end: end,
-        whole: true,
-        long: long,
-        done: done,
-        n: n,
+    // The next line, or one more read.
+    pub(crate) fn step(&mut self) -> Step {
+        if self.done {
+            return Step::End;
+        }
+        if let Some(n) = self.newline() {
+            let from = self.at;
+            let to = from.saturating_add(n);
+            self.at = to.saturating_add(1);
+            return self.line(from, to);
+        }
+        if self.refill() {
+            return Step::More;
+        }
+        // The last line needs no newline.
+        self.done = true;
+        if self.end == 0 && !self.long {
+            return Step::End;
+        }
+        self.line(0, self.end)
     }
-}
 
-// More is to be read behind the bytes 0 .. end.
-fn going(end: usize, long: bool, n: usize) -> State {
-    State {
-        at: 0,
-        to: 0,
-        end: end,
-        whole: false,
-        long: long,
-        done: false,
-        n: n,
+    // The bytes from .. to of the buffer.
+    pub(crate) fn bytes(&self, from: usize, to: usize) -> &[u8] {
+        self.buffer.get(from..to).unwrap_or(&[])
     }
-}
 
-// The next line, or one more read.
-pub(crate) fn step(rt: HostRuntime, s: State, buf: &mut [u8]) -> State {
-    let at = s.at;
-    let end = s.end;
-    if buf.len() < end {
-        return ended(s.n);
+    // How many bytes are before the next newline, where one has been read.
+    fn newline(&self) -> Option<usize> {
+        self.bytes(self.at, self.end)
+            .iter()
+            .position(|b| *b == b'\n')
     }
-    if end < at {
-        return ended(s.n);
-    }
-    let c = buffer::newline(buf, at, end);
-    if c < end {
-        return whole(at, c, end, s.long, false, s.n);
-    }
-    refill(rt, s, buf)
-}
 
-// Moves what is left to the front and reads behind it. A buffer full of one line is forgotten, and the line is `long`. The last line needs no newline.
-fn refill(rt: HostRuntime, s: State, buf: &mut [u8]) -> State {
-    let at = s.at;
-    let end = s.end;
-    if end < at {
-        return ended(s.n);
+    // A line, or what is left of one that did not fit.
+    fn line(&mut self, from: usize, to: usize) -> Step {
+        if self.long {
+            self.long = false;
+            return Step::TooLong;
+        }
+        Step::Line { from, to }
     }
-    if (at == 0) & (end == buf.len()) {
-        return going(0, true, s.n);
-    }
-    buffer::shift(buf, at, end);
-    let left = end - at;
-    let got = buffer::read_at(rt, buf, left);
-    if 0 < got {
-        return more(left, got, s.long, s.n);
-    }
-    if (left == 0) & !s.long {
-        return ended(s.n);
-    }
-    whole(0, left, left, s.long, true, s.n)
-}
 
-// What was left, and what was read behind it.
-fn more(left: usize, got: usize, long: bool, n: usize) -> State {
-    if usize::MAX - left < got {
-        return ended(n);
-    }
-    going(left + got, long, n)
-}
-
-// Behind a line that was answered up to the output's place n, or where none was.
-pub(crate) fn after(s: State, n: usize) -> State {
-    if !s.whole {
-        return State {
-            at: s.at,
-            to: s.to,
-            end: s.end,
-            whole: false,
-            long: s.long,
-            done: s.done,
-            n: n,
+    // Moves what is left to the front and reads behind it; whether there was more. A buffer full of one line is forgotten, and the line is `long`.
+    fn refill(&mut self) -> bool {
+        if self.at == 0 && self.end == self.buffer.len() {
+            self.end = 0;
+            self.long = true;
+            return true;
+        }
+        let at = self.at.min(self.buffer.len());
+        self.buffer.rotate_left(at);
+        self.end = self.end.saturating_sub(at);
+        self.at = 0;
+        let Some(room) = self.buffer.get_mut(self.end..) else {
+            return false;
         };
-    }
-    if usize::MAX <= s.to {
-        return ended(n);
-    }
-    State {
-        at: s.to + 1,
-        to: 0,
-        end: s.end,
-        whole: false,
-        long: false,
-        done: s.done,
-        n: n,
+        let n = self.rt.stdin().read(room).unwrap_or(0);
+        self.end = self.end.saturating_add(n);
+        0 < n
     }
 }

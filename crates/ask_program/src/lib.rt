@@ -2,31 +2,30 @@
 // of `line`.
 #![tactic(auto)]
 
-mod buffer;
 mod input;
 mod line;
 
-use answer_lines::emit;
+use answer_lines::Output;
+use input::{Input, Step};
 
 // Answers standard input to its end. The buffers stand here, apart from the loop.
 pub fn run(rt: HostRuntime) {
-    let mut buf = [0u8; 262144];
-    let mut out = [0u8; 65536];
-    serve(rt, &mut buf, &mut out);
+    let mut buffer = [0u8; 262144];
+    let mut room = [0u8; 65536];
+    serve(Input::new(rt, &mut buffer), Output::new(rt, &mut room));
 }
 
-// Nothing says that the input ends, so the turns are counted down from a number that no run uses up.
-fn serve(rt: HostRuntime, buf: &mut [u8], out: &mut [u8]) {
-    let mut s = input::first();
-    let mut turns = u64::MAX;
-    while turns > 0 {
-        let t = input::step(rt, s, buf);
-        let n = line::answered(rt, t, buf, out);
-        s = input::after(t, n);
-        if s.done {
-            emit::flush(rt, s.n, out);
-            return;
+// Nothing says that the input ends, so the turns are counted, up to a number that no run uses up.
+fn serve(mut input: Input<'_>, mut out: Output<'_>) {
+    for _ in 0..u64::MAX {
+        match input.step() {
+            Step::Line { from, to } => line::answer(input.bytes(from, to), &mut out),
+            Step::TooLong => line::too_long(&mut out),
+            Step::More => {}
+            Step::End => {
+                out.flush();
+                return;
+            }
         }
-        turns -= 1;
     }
 }

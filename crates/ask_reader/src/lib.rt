@@ -1,60 +1,84 @@
 // The requests `read TEXT NSLOTS NSTARTS NSIZES NEXCESSES`, a sheet of either store, and `read16` with the same fields, one of the 16-bit store, answered by
-// `reader`. A module for each list of weights that is lent; `head` shows what stands before the lists.
+// `reader`. `head` shows what stands before the lists.
 #![tactic(auto)]
 
-mod either;
 mod head;
-mod narrow;
 
-use answer_lines::Said;
-use request_fields::fields;
+use answer_lines::{Output, Show};
+use reader::Unread;
+use request_fields::{Element, Fault, Words};
+use sheet_scan::{Sizes, StoreLines};
 
-// The line's answer, where it is `read`.
-pub fn answer(
-    rt: HostRuntime,
-    line: &[u8],
-    s: Said,
-    out: &mut [u8],
-    text: &mut [u8],
-    weights: &mut [i32],
-    starts: &mut [u32],
-    sizes: &mut [u32],
-    excesses: &mut [i64],
-) -> Said {
-    if s.done {
-        return s;
+// Whether the line is one of these requests, which is answered then.
+pub fn answer(line: &[u8], out: &mut Output<'_>) -> Result<bool, Fault> {
+    let mut words = Words::new(line);
+    match words.word()? {
+        b"read" => read(words, &mut [0i32; 131072], out),
+        b"read16" => read(words, &mut [0i16; 131072], out),
+        _ => Ok(false),
     }
-    if !fields::is(line, 0, b"read") {
-        return s;
-    }
-    let f = request_fields::first_fault(line, b"tnnnn");
-    if f.reason != 0 {
-        return answer_lines::told(answer_lines::bad(rt, f.word, f.reason, s.n, out));
-    }
-    either::of_line(rt, line, s.n, out, text, weights, starts, sizes, excesses)
 }
 
-// The line's answer, where it is `read16`.
-pub fn answer16(
-    rt: HostRuntime,
-    line: &[u8],
-    s: Said,
-    out: &mut [u8],
-    text: &mut [u8],
-    weights: &mut [i16],
-    starts: &mut [u32],
-    sizes: &mut [u32],
-    excesses: &mut [i64],
-) -> Said {
-    if s.done {
-        return s;
+// The weights that a sheet is read into.
+trait Weight: Element + Show {
+    // Their reader of sheets.
+    fn read_sheet(
+        text: &[u8],
+        weights: &mut [Self],
+        starts: &mut [u32],
+        sizes: &mut [u32],
+        excesses: &mut [i64],
+    ) -> Result<(Sizes, StoreLines), Unread>;
+}
+
+impl Weight for i32 {
+    fn read_sheet(
+        text: &[u8],
+        weights: &mut [i32],
+        starts: &mut [u32],
+        sizes: &mut [u32],
+        excesses: &mut [i64],
+    ) -> Result<(Sizes, StoreLines), Unread> {
+        reader::read_sheet(text, weights, starts, sizes, excesses)
     }
-    if !fields::is(line, 0, b"read16") {
-        return s;
+}
+
+impl Weight for i16 {
+    fn read_sheet(
+        text: &[u8],
+        weights: &mut [i16],
+        starts: &mut [u32],
+        sizes: &mut [u32],
+        excesses: &mut [i64],
+    ) -> Result<(Sizes, StoreLines), Unread> {
+        reader::read_sheet16(text, weights, starts, sizes, excesses)
     }
-    let f = request_fields::first_fault(line, b"tnnnn");
-    if f.reason != 0 {
-        return answer_lines::told(answer_lines::bad(rt, f.word, f.reason, s.n, out));
-    }
-    narrow::of_line(rt, line, s.n, out, text, weights, starts, sizes, excesses)
+}
+
+// What the head lines say, and the four lists.
+fn read<W: Weight>(
+    mut words: Words<'_>,
+    weights: &mut [W],
+    out: &mut Output<'_>,
+) -> Result<bool, Fault> {
+    let mut text = [0u8; 131072];
+    let mut starts = [0u32; 131072];
+    let mut sizes = [0u32; 131072];
+    let mut excesses = [0i64; 131072];
+    let text = words.text(&mut text)?;
+    let weights = words.lent(weights)?;
+    let starts = words.lent(&mut starts)?;
+    let sizes = words.lent(&mut sizes)?;
+    let excesses = words.lent(&mut excesses)?;
+    words.end()?;
+    head::show(W::read_sheet(text, weights, starts, sizes, excesses), out);
+    out.byte(b' ');
+    out.list(weights);
+    out.byte(b' ');
+    out.list(starts);
+    out.byte(b' ');
+    out.list(sizes);
+    out.byte(b' ');
+    out.list(excesses);
+    Ok(true)
 }

@@ -1,68 +1,115 @@
 // The requests `accept STORE LINES WINDOW PRECISION WEIGHTS STARTS SIZES EXCESSES WINDOW PRECISION STARTS SIZES WEIGHTS`, an offer judged, and
-// `offer STORE LINES WINDOW PRECISION WEIGHTS STARTS SIZES EXCESSES NOUT`, an offer of our own, answered by `repairs`. Weights stand in a list of the store that
-// the line names, and that of the other store is empty (`weights`): each request is one piece of code for both stores. Lists named `other` are the offer's.
+// `offer STORE LINES WINDOW PRECISION WEIGHTS STARTS SIZES EXCESSES NOUT`, an offer of our own, answered by `accept_offers` and `make_offers`. Each is one piece of
+// code for the weights of both stores (`Weight`). Lists named `other` are the offer's.
 #![tactic(auto)]
 
-mod accepting;
-mod judging;
-mod making;
-mod offering;
-mod stores;
-mod weights;
+use accept_offers::accept_offer;
+use answer_lines::{Output, Show};
+use make_offers::make_offer;
+use refusal::Numbered;
+use request_fields::{Element, Fault, Kind, Words};
+use windows::Weight;
 
-ghost use Rattle.std.specs.Prelude.{◌≤◌, length};
-
-use answer_lines::Said;
-use request_fields::{Fault, fields, u32s};
-
-// The line's answer, where it is one of these requests.
-pub fn answer(rt: HostRuntime, line: &[u8], s: Said, out: &mut [u8]) -> Said {
-    if s.done {
-        return s;
+// Whether the line is one of these requests, which is answered then.
+pub fn answer(line: &[u8], out: &mut Output<'_>) -> Result<bool, Fault> {
+    let mut words = Words::new(line);
+    match words.word()? {
+        b"accept" => accept(words, out),
+        b"offer" => offer(words, out),
+        _ => Ok(false),
     }
-    if fields::is(line, 0, b"accept") {
-        let f = first_fault(line, b"wwwwIWWQwwWWI", b"wwwwJWWQwwWWJ");
-        if f.reason != 0 {
-            return answer_lines::told(answer_lines::bad(rt, f.word, f.reason, s.n, out));
-        }
-        return accepting::of_line(rt, line, s.n, out);
-    }
-    if fields::is(line, 0, b"offer") {
-        let f = first_fault(line, b"wwwwIWWQn", b"wwwwJWWQn");
-        if f.reason != 0 {
-            return answer_lines::told(answer_lines::bad(rt, f.word, f.reason, s.n, out));
-        }
-        return offering::of_line(rt, line, s.n, out);
-    }
-    s
 }
 
-// Word k into the list from the place `at` on: the place behind it. A line has no more elements in all its lists than one list takes.
-pub(crate) fn read_after(line: &[u8], k: usize, at: usize, list: &mut [u32]) -> usize
-    requires { at ≤ length list.old }
-    ensures { (at ≤ result) × (result ≤ length list.old) }
-{
-    let e = list.len();
-    at + u32s::read(line, k, &mut list[at..e])
+// An offer judged, by the store.
+fn accept(mut words: Words<'_>, out: &mut Output<'_>) -> Result<bool, Fault> {
+    match words.word()? {
+        b"16" => judge(words, &mut [0i16; 131072], &mut [0i16; 131072], out),
+        b"32" => judge(words, &mut [0i32; 131072], &mut [0i32; 131072], out),
+        _ => Err(words.not(Kind::Store)),
+    }
 }
 
-// The first fault of a line, by the shape of its store; that word itself where it names none.
-fn first_fault(line: &[u8], shape16: &[u8], shape32: &[u8]) -> Fault {
-    if fields::is(line, 1, b"16") {
-        return request_fields::first_fault(line, shape16);
+// The number, and the stored weights and excesses as they are afterwards.
+fn judge<W: Weight + Element + Show>(
+    mut words: Words<'_>,
+    weights: &mut [W],
+    other_weights: &mut [W],
+    out: &mut Output<'_>,
+) -> Result<bool, Fault> {
+    let mut starts = [0u32; 131072];
+    let mut sizes = [0u32; 131072];
+    let mut excesses = [0i64; 131072];
+    let mut other_starts = [0u32; 131072];
+    let mut other_sizes = [0u32; 131072];
+    let lines = words.number()?;
+    let window = words.number()?;
+    let precision = words.number()?;
+    let weights = words.list(weights)?;
+    let starts = words.list(&mut starts)?;
+    let sizes = words.list(&mut sizes)?;
+    let excesses = words.list(&mut excesses)?;
+    let other_window = words.number()?;
+    let other_precision = words.number()?;
+    let other_starts = words.list(&mut other_starts)?;
+    let other_sizes = words.list(&mut other_sizes)?;
+    let other_weights = words.list(other_weights)?;
+    words.end()?;
+    let answer = accept_offer(
+        lines,
+        window,
+        precision,
+        weights,
+        starts,
+        sizes,
+        excesses,
+        other_window,
+        other_precision,
+        other_starts,
+        other_sizes,
+        other_weights,
+    );
+    out.show(answer.number());
+    out.byte(b' ');
+    out.list(weights);
+    out.byte(b' ');
+    out.list(excesses);
+    Ok(true)
+}
+
+// An offer of our own, by the store.
+fn offer(mut words: Words<'_>, out: &mut Output<'_>) -> Result<bool, Fault> {
+    match words.word()? {
+        b"16" => make(words, &mut [0i16; 131072], &mut [0i16; 131072], out),
+        b"32" => make(words, &mut [0i32; 131072], &mut [0i32; 131072], out),
+        _ => Err(words.not(Kind::Store)),
     }
-    if fields::is(line, 1, b"32") {
-        return request_fields::first_fault(line, shape32);
-    }
-    let f = request_fields::first_fault(line, b"");
-    if f.reason == 0 {
-        return Fault {
-            word: 2,
-            reason: b'-',
-        };
-    }
-    Fault {
-        word: 2,
-        reason: b's',
-    }
+}
+
+// The number, the line and the list that is lent.
+fn make<W: Weight + Element + Show>(
+    mut words: Words<'_>,
+    weights: &mut [W],
+    lent: &mut [W],
+    out: &mut Output<'_>,
+) -> Result<bool, Fault> {
+    let mut starts = [0u32; 131072];
+    let mut sizes = [0u32; 131072];
+    let mut excesses = [0i64; 131072];
+    let lines = words.number()?;
+    let window = words.number()?;
+    let precision = words.number()?;
+    let weights = words.list(weights)?;
+    let starts = words.list(&mut starts)?;
+    let sizes = words.list(&mut sizes)?;
+    let excesses = words.list(&mut excesses)?;
+    let lent = words.lent(lent)?;
+    words.end()?;
+    let answer = make_offer(
+        lines, window, precision, weights, starts, sizes, excesses, lent,
+    );
+    out.show(answer.number());
+    out.next(repairs::line(answer));
+    out.byte(b' ');
+    out.list(lent);
+    Ok(true)
 }

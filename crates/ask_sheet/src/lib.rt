@@ -1,73 +1,76 @@
-// The request `sheet KIND LINES WINDOW STORE PRECISION WEIGHTS STARTS SIZES EXCESSES ROOM`, answered by `sheet`, with a module for each store.
+// The request `sheet KIND LINES WINDOW STORE PRECISION WEIGHTS STARTS SIZES EXCESSES ROOM`, answered by `write_sheets`.
 #![tactic(auto)]
 
-mod store16;
-mod store32;
+use answer_lines::Output;
+use filter_fields::Name;
+use refusal::Numbered;
+use request_fields::{Element, Fault, Kind, Words};
+use windows::Weight;
 
-use answer_lines::{Said, emit};
-use request_fields::{Fault, fields};
-use sheet::Sheet;
-
-// The line's answer, where it is this request.
-pub fn answer(
-    rt: HostRuntime,
-    line: &[u8],
-    s: Said,
-    out: &mut [u8],
-    narrow: &mut [i16],
-    wide: &mut [i32],
-    starts: &mut [u32],
-    sizes: &mut [u32],
-    excesses: &mut [i64],
-    room: &mut [u8],
-) -> Said {
-    if s.done {
-        return s;
+// Whether the line is this request, which is answered then.
+pub fn answer(line: &[u8], out: &mut Output<'_>) -> Result<bool, Fault> {
+    let mut words = Words::new(line);
+    match words.word()? {
+        b"sheet" => by_store(words, out),
+        _ => Ok(false),
     }
-    if !fields::is(line, 0, b"sheet") {
-        return s;
-    }
-    if fields::is(line, 4, b"16") {
-        return store16::of_line(rt, line, s.n, out, narrow, starts, sizes, excesses, room);
-    }
-    if fields::is(line, 4, b"32") {
-        return store32::of_line(rt, line, s.n, out, wide, starts, sizes, excesses, room);
-    }
-    let f = store_fault(line);
-    answer_lines::told(answer_lines::bad(rt, f.word, f.reason, s.n, out))
 }
 
-// The first fault of a line whose word 4 is no store: one before it, or that word itself.
-fn store_fault(line: &[u8]) -> Fault {
-    let f = request_fields::first_fault(line, b"kww");
-    if f.reason == 0 {
-        return Fault {
-            word: 5,
-            reason: b'-',
-        };
-    }
-    if f.reason == b'+' {
-        return Fault {
-            word: 5,
-            reason: b's',
-        };
-    }
-    f
+// What stands before the store: KIND LINES WINDOW.
+#[derive(Clone, Copy)]
+struct Head<'a> {
+    name: Name<'a>,
+    lines: u32,
+    window: u32,
 }
 
-// The number, the length and the lent list's bytes.
-pub(crate) fn show(rt: HostRuntime, answer: Sheet, lent: &[u8], n: usize, out: &mut [u8]) -> Said {
-    let p = emit::whole(rt, answer.number(), n, out);
-    let q = emit::byte(rt, b' ', p, out);
-    let r = emit::number(rt, length(answer), q, out);
-    let t = emit::byte(rt, b' ', r, out);
-    answer_lines::told(answer_lines::u8s::show_hex(rt, lent, t, out))
+// The weights are those of the store.
+fn by_store(mut words: Words<'_>, out: &mut Output<'_>) -> Result<bool, Fault> {
+    let head = Head {
+        name: Name::read(&mut words)?,
+        lines: words.number()?,
+        window: words.number()?,
+    };
+    match words.word()? {
+        b"16" => of_store(words, head, &mut [0i16; 131072], out),
+        b"32" => of_store(words, head, &mut [0i32; 131072], out),
+        _ => Err(words.not(Kind::Store)),
+    }
 }
 
-// The sheet's length, 0 beside a refusal.
-fn length(answer: Sheet) -> u64 {
-    match answer {
-        Sheet::Written(length) => length,
-        Sheet::Refused(_) => 0,
-    }
+// What stands behind the store, in the rooms. The number, the length and the bytes of the list that is lent.
+fn of_store<W: Weight + Element>(
+    mut words: Words<'_>,
+    head: Head<'_>,
+    weights: &mut [W],
+    out: &mut Output<'_>,
+) -> Result<bool, Fault> {
+    let mut starts = [0u32; 131072];
+    let mut sizes = [0u32; 131072];
+    let mut excesses = [0i64; 131072];
+    let mut room = [0u8; 524288];
+    let precision = words.number()?;
+    let weights = words.list(weights)?;
+    let starts = words.list(&mut starts)?;
+    let sizes = words.list(&mut sizes)?;
+    let excesses = words.list(&mut excesses)?;
+    let room = words.room(program_streams::room(&mut room))?;
+    words.end()?;
+    let filter = head.name.filter()?;
+    let answer = write_sheets::write(
+        filter,
+        head.lines,
+        head.window,
+        precision,
+        weights,
+        starts,
+        sizes,
+        excesses,
+        room,
+    );
+    out.show(answer.number());
+    out.next(answer.unwrap_or(0));
+    out.byte(b' ');
+    out.text(room);
+    Ok(true)
 }

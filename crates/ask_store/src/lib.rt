@@ -2,71 +2,76 @@
 // are looked at before the first is made, so that a line with a bad one is answered as bad and nothing is run.
 #![tactic(auto)]
 
-mod calls;
-mod made;
-mod shapes;
+mod call;
+mod store;
 
-ghost use Rattle.std.specs.Prelude.{◌≤◌};
+use answer_lines::Output;
+use call::Call;
+use request_fields::{Fault, Kind, Words};
 
-use answer_lines::Said;
-use request_fields::fields;
-
-// So many slots as the second word says, and no more than there are.
-fn slot_count(line: &[u8], most: usize) -> usize
-    ensures { result ≤ most }
-{
-    let n = fields::whole(line, 1) as usize;
-    if most < n {
-        return most;
+// Whether the line is this request, which is answered then.
+pub fn answer(line: &[u8], out: &mut Output<'_>) -> Result<bool, Fault> {
+    let mut words = Words::new(line);
+    match words.word()? {
+        b"store" => calls(words, out),
+        _ => Ok(false),
     }
-    n
 }
 
-// Whether the line is this request.
-pub fn asked(line: &[u8]) -> bool {
-    fields::is(line, 0, b"store")
+// The calls, joined by `/`, and their answers.
+fn calls(mut words: Words<'_>, out: &mut Output<'_>) -> Result<bool, Fault> {
+    let slots = words.length()?;
+    let calls = words.word()?;
+    let bad = words.not(Kind::Calls);
+    words.end()?;
+    if !calls
+        .split(|b| *b == b'/')
+        .all(|part| Call::read(part).is_ok())
+    {
+        return Err(bad);
+    }
+    make(slots, calls, out)?;
+    Ok(true)
 }
 
-// The line's answer, where it is this request. The lists are those of an empty store.
-pub fn answer(
-    rt: HostRuntime,
-    line: &[u8],
-    s: Said,
-    out: &mut [u8],
-    call: &mut [u8],
+// The calls made one after the other with an empty store of so many slots, their answers joined by `/`.
+fn make(slots: usize, calls: &[u8], out: &mut Output<'_>) -> Result<(), Fault> {
+    let mut numbers = [0u32; 10];
+    let mut weights = [0i32; 131072];
+    let mut starts = [0u32; 16384];
+    let mut sizes = [0u32; 16384];
+    let mut excesses = [0i64; 16384];
+    make_each(
+        slots,
+        calls,
+        &mut numbers,
+        &mut weights,
+        &mut starts,
+        &mut sizes,
+        &mut excesses,
+        out,
+    )
+}
+
+// The same, with the lists of the store.
+fn make_each(
+    slots: usize,
+    calls: &[u8],
     numbers: &mut [u32],
-    slots: &mut [i32],
+    weights: &mut [i32],
     starts: &mut [u32],
     sizes: &mut [u32],
     excesses: &mut [i64],
-) -> Said {
-    if s.done {
-        return s;
+    out: &mut Output<'_>,
+) -> Result<(), Fault> {
+    let n = slots.min(weights.len());
+    let slots = &mut weights[..n];
+    for (i, part) in calls.split(|b| *b == b'/').enumerate() {
+        if 0 < i {
+            out.byte(b'/');
+        }
+        let call = Call::read(part)?;
+        store::make(call, numbers, slots, starts, sizes, excesses, out)?;
     }
-    if !asked(line) {
-        return s;
-    }
-    let f = request_fields::first_fault(line, b"nk");
-    if f.reason != 0 {
-        return answer_lines::told(answer_lines::bad(rt, f.word, f.reason, s.n, out));
-    }
-    let from = calls::first(line);
-    if !shapes::all_fit(line, from, call) {
-        return answer_lines::told(answer_lines::bad(rt, 3, b'c', s.n, out));
-    }
-    let a: usize = 0;
-    let k = slot_count(line, slots.len());
-    answer_lines::told(made::all(
-        rt,
-        line,
-        from,
-        call,
-        numbers,
-        &mut slots[a..k],
-        starts,
-        sizes,
-        excesses,
-        s.n,
-        out,
-    ))
+    Ok(())
 }

@@ -14,6 +14,7 @@ use Rattle.refusal.specs.declared.Refusal.TheVariants.{NotASheet}
 use Rattle.refusal.specs.Refusal.{number_of}
 use Rattle.windows.specs.Set.{windows}
 use Rattle.sheet.specs.Text.{open_text}
+use Rattle.std.specs.Prelude.{Ok}
 use Rattle.scan.specs.Form.{Form, Found, Stopped}
 use Rattle.scan.specs.Forms.{fixed, run_text, RunGood}
 use Rattle.scan.proofs.RunText.{run_long}
@@ -31,7 +32,7 @@ use Rattle.book_numbers.specs.Joins.{join_of}
 use Rattle.book_numbers.proofs.JoinLaws.{join_numbers}
 use Rattle.book_windows.specs.Rows.{row_marks}
 use Rattle.book_windows.proofs.SetMarks.{marks_are}
-use Rattle.book.specs.Book.{FirstOf}
+use Rattle.book.specs.Book.{SheetOf, FirstOf}
 
 -- pieces that all have a byte
 run_bytes : {A : Type 0} (F : ℕ → Form A) → ((i : ℕ) (a : A) → 1 ≤ length ((F i).text a)) → (i : ℕ) (l : List A) → length l ≤ length (run_text F i l)
@@ -65,16 +66,19 @@ module _ {text : List ℕ} {at : ℕ} where
   pub first_none : {stop : ℕ} {r : Report} → Stopped (sheets true) text at stop → r ≡ numbers_of 0 [] (number_of NotASheet) (stop - at) → FirstOf text at r
   first_none {stop} s is = inr (stop, s, is)
 
+  -- one is
+  pub first_some : {r : Report} → SheetOf text at (Ok r) → FirstOf text at r
+  first_some h = inl h
+
   -- the lines of a sheet are there, one after the other
-  pub first_found : {v : Sizes} {w : StoreLines} {rows : List Row} {a b c next : ℕ} {r : Report} → Found size_lines text at v a → Found (store_lines true) text a w b → Found (lines_of v w) text b rows c → Found (fixed (excess_line w.precision rows)) text c tt next → next < 2 ^ 64 → r ≡ join_of (numbers_of 1 [] 0 (next - at)) (numbers_of 0 (row_marks w.precision rows) 0 0) → FirstOf text at r
+  pub first_found : {v : Sizes} {w : StoreLines} {rows : List Row} {a b c next : ℕ} {r : Report} → Found size_lines text at v a → Found (store_lines true) text a w b → Found (lines_of v w) text b rows c → Found (fixed (excess_line w.precision rows)) text c tt next → next < 2 ^ 64 → r ≡ join_of (numbers_of 1 [] 0 (next - at)) (numbers_of 0 (row_marks w.precision rows) 0 0) → SheetOf text at (Ok r)
   first_found {v} {w} {rows} {a} {b} {c} {next} {r} f g h x small is =
       let F = window_line v.lines v.window_size (limit_of_value w.bits) in
       let long = run_long F 0 v.windows rows h.good in
       let few = f.good.1.1 in
       let marks = row_marks w.precision rows in
       let count : length marks ≡ length rows = length_tab 0 (length rows) _ in
-      let good = subst (λ (n : ℕ). RunGood F 0 n rows) (sym long) h.good in
-      inl (
+      let good = subst (λ (n : ℕ). RunGood F 0 n rows) (sym long) h.good in (
         whole_of_value v w rows,
         next,
         sheet_found true f g h x,

@@ -1,6 +1,6 @@
 -- The release book of a text, from its sheets alone: the text is split into the longest run of whole acceptable sheets, and the numbers are counts and extremes over their
 -- windows. Cited by the contract of `book` and by the theorems here. Definitions only. Assumes nothing.
-use Rattle.std.specs.Prelude.{◌≡◌, true, List, [], ◌∷◌, ◌++◌, ◌⊎◌, ℕ, ◌+◌, ◌-◌, length}
+use Rattle.std.specs.Prelude.{Result, Ok, Err, ◌≡◌, true, List, [], ◌∷◌, ◌++◌, ◌⊎◌, ℕ, ◌+◌, ◌-◌, length}
 use Rattle.refusal.specs.declared.Refusal.TheVariants.{NotASheet}
 use Rattle.refusal.specs.Refusal.{number_of}
 use Rattle.scan.specs.Form.{Found, Stopped}
@@ -42,6 +42,11 @@ pub record BookOf (text : List ℕ) (r : Report) : Type 0 where
   pub right : ℕ
   pub longest : Longest true rest right
   pub is : r ≡ numbers_of (length run) (all_marks run) (stopped_at rest) (length (texts_of run) + right)
+
+-- a scan of one sheet answers its report, or where the text stops being like a sheet
+abbrev pub SheetOf : List ℕ → ℕ → Result Report ℕ → Type 0
+SheetOf text at (Ok r) = (x : Whole) × (next : ℕ) × Found (sheets true) text at x next × (r ≡ numbers_of 1 (marks_of x.set) 0 (next - at))
+SheetOf text at (Err stop) = Stopped (sheets true) text at stop
 
 -- the report of the text from a place on, up to the end of its first sheet: that sheet's, or that of none
 abbrev pub FirstOf : List ℕ → ℕ → Report → Type 0

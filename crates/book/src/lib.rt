@@ -17,6 +17,7 @@ pub fn book(text: &[u8]) -> Report
 {
     let mut r = EMPTY;
     let mut at: usize = 0;
+    // No range or iterator has these places: each step is as long as the sheet that was read there.
     while at < text.len() {
         let one = first_sheet(text, at);
         r = join(r, one);

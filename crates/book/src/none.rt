@@ -5,7 +5,7 @@ ghost use Rattle.refusal.specs.Refusal.{number_of};
 ghost use Rattle.book_numbers.specs.Marks.{numbers_of};
 
 use book_numbers::Report;
-use refusal::Refusal;
+use refusal::{Numbered, Refusal};
 
 // The report of a text that has no sheet at a place, and is right up to another: of what the bad sheet says nothing counts.
 pub(crate) fn no_sheet(at: usize, stop: usize) -> Report
@@ -19,7 +19,7 @@ pub(crate) fn no_sheet(at: usize, stop: usize) -> Report
         most: 0,
         notflat: 0,
         negative: 0,
-        stopped: refusal::number(Refusal::NotASheet),
+        stopped: Refusal::NotASheet.number(),
         byte: (stop - at) as u64,
     }
 }

@@ -7,13 +7,6 @@ mod told;
 
 use book_numbers::{EMPTY, Report, join};
 
-// The report of one file; or it was not read, and why has been said.
-#[derive(Drop)]
-enum Filed {
-    Read(Report),
-    Unread,
-}
-
 // Answers the program's arguments, a name of a file each. The text stands here, apart from what looks at it.
 pub fn run(rt: HostRuntime) {
     let mut text = [0u8; 524288];
@@ -25,32 +18,24 @@ pub fn run(rt: HostRuntime) {
 }
 
 // The report of the files from argument 1 on, up to the first bad sheet.
-fn all(rt: HostRuntime, count: usize, text: &mut [u8]) {
+fn all(rt: HostRuntime, count: usize, room: &mut [u8]) {
     let mut r = EMPTY;
-    let mut i: usize = 1;
-    while i < count {
-        let got = one(rt, i, text);
-        let Filed::Read(next) = got else {
+    for i in 1..count {
+        let Some(next) = one(rt, i, room) else {
             return;
         };
         r = join(r, next);
         if next.stopped != 0 {
-            return told::report(rt, r);
+            break;
         }
-        i += 1;
     }
     told::report(rt, r);
 }
 
-// The report of the file that argument i names.
-fn one(rt: HostRuntime, i: usize, text: &mut [u8]) -> Filed {
-    let a: usize = 0;
-    let got = sheet_files::text_of(rt, i, text);
-    let n = got.n;
-    if !got.whole {
-        return Filed::Unread;
-    }
-    Filed::Read(judged(rt, i, &text[a..n]))
+// The report of the file that argument i names; where it was not read, why has been said.
+fn one(rt: HostRuntime, i: usize, room: &mut [u8]) -> Option<Report> {
+    let text = sheet_files::text_of(rt, i, room)?;
+    Some(judged(rt, i, text))
 }
 
 // The report of its text. Of a bad sheet the place is said at once, while the text is there.

@@ -1,7 +1,7 @@
 // The report, printed.
 use book_numbers::Report;
-use sheet::Sheet;
-use sheet_files::streams::out;
+use program_streams::out;
+use refusal::Refusal;
 
 // The seven lines; at most 188 bytes, so that there is room.
 pub(crate) fn report(rt: HostRuntime, r: Report) {
@@ -11,14 +11,11 @@ pub(crate) fn report(rt: HostRuntime, r: Report) {
 }
 
 // The first bytes of the list, which are the report.
-fn show(rt: HostRuntime, answer: Sheet, room: &[u8]) {
-    let a: usize = 0;
-    let Sheet::Written(length) = answer else {
+fn show(rt: HostRuntime, answer: Result<u64, Refusal>, room: &[u8]) {
+    let Ok(length) = answer else {
         return;
     };
-    let n = length as usize;
-    if room.len() < n {
-        return;
+    if let Some(report) = room.get(..length as usize) {
+        out(rt, report);
     }
-    out(rt, &room[a..n]);
 }

@@ -1,5 +1,6 @@
 -- Document 02's empty report, computed: the seven lines of the report of no text are the paper's, byte by byte; 65 bytes of room are enough, and 64 are not. A report with
 -- other numbers too. Cited by nothing: it shows that the definition is the paper's. Assumes nothing.
+use Rattle.std.specs.Prelude.{Ok, Err}
 use mathlib.Core.Path.{◌≡◌, refl}
 use mathlib.Core.List.{List, [], ◌∷◌, ◌++◌}
 use Prim.Native.Nat.{ℕ}
@@ -7,7 +8,6 @@ use lib.IntN.{pos, negsuc}
 use Rattle.text.specs.Text.{digit_count_value, decimal, signed, field_text, line_text}
 use Rattle.signed_lines.specs.Lines.{number_text}
 use Rattle.refusal.specs.declared.Refusal.TheVariants.{NoRoom}
-use Rattle.sheet.specs.declared.Sheet.TheVariants.{Written, Refused}
 use Rattle.book_numbers.specs.declared.Report.{Report}
 use Rattle.book_numbers.specs.Marks.{numbers_of}
 use Rattle.book_text.specs.Text.{sheets_text, report_text, answer_of}
@@ -27,7 +27,7 @@ pub empty_report : report_text (numbers_of 0 [] 0 0) ≡ paper
 unfolding report_text sheets_text number_text signed field_text line_text decimal digit_count_value
 empty_report = refl
 
-pub empty_answers : (answer_of (numbers_of 0 [] 0 0) 65 ≡ Written 65) × (answer_of (numbers_of 0 [] 0 0) 64 ≡ Refused NoRoom)
+pub empty_answers : (answer_of (numbers_of 0 [] 0 0) 65 ≡ Ok 65) × (answer_of (numbers_of 0 [] 0 0) 64 ≡ Err NoRoom)
 unfolding report_text sheets_text number_text signed field_text line_text decimal digit_count_value
 empty_answers = (refl, refl)
 

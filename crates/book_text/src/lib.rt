@@ -10,7 +10,6 @@ ghost use Rattle.book_text.specs.Text.{sheets_text, report_text, answer_of, writ
 
 use book_numbers::Report;
 use refusal::Refusal;
-use sheet::Sheet;
 use signed_lines::put_signed_line;
 use text::put_line;
 
@@ -37,15 +36,15 @@ fn put_report(r: Report, out: &mut [u8]) -> usize
 }
 
 // The text of any report, in `out`; where the room is too small No. 11, and `out` unchanged. The answer is the writers' one: how many bytes, or why none.
-pub fn write_report(r: Report, out: &mut [u8]) -> Sheet
+pub fn write_report(r: Report, out: &mut [u8]) -> Result<u64, Refusal>
     ensures answer { result ≡ answer_of r (length out.old) }
     ensures written { out.new ≡ written_of r out.old }
 {
     let mut none = [0u8; 1];
     let n = put_report(r, &mut none);
     if out.len() < n {
-        return Sheet::Refused(Refusal::NoRoom);
+        return Err(Refusal::NoRoom);
     }
     put_report(r, out);
-    Sheet::Written(n as u64)
+    Ok(n as u64)
 }

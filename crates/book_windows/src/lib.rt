@@ -29,14 +29,12 @@ pub fn count_windows(
 {
     let mut r = EMPTY;
     let mut p = mid;
-    let mut i: u32 = 0;
-    while i < outs {
+    for i in 0..outs {
         let line = opened(i, lines, size, text, p);
         let e = window_excess(precision, limit, line.size, text, line.next);
         let negative = some_negative(limit, line.size, text, line.next);
         r = join(r, window_report(e.value, precision, negative));
         p = e.next;
-        i += 1;
     }
     r
 }

@@ -15,12 +15,10 @@ pub(crate) fn some_negative(limit: u64, size: u32, text: &[u8], at: usize) -> bo
 {
     let mut some = false;
     let mut p = at;
-    let mut j: u32 = 0;
-    while j < size {
+    for j in 0..size {
         let w = weight(limit, size, j, text, p);
         some = some | (w.value < 0);
         p = w.next;
-        j += 1;
     }
     some
 }

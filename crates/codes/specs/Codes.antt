@@ -1,18 +1,15 @@
 -- Codes of the C interface: what each names, and the answers where a code may name nothing. No. 100 exists here only; it is judged first but for a build with a retired filter,
 -- and the numbers beside it are 0. Cited by the contracts of `codes`, `mirror_crop`, `mirror_sets`, `mirror_sheets` and `mirror_readers`. Definitions only. Assumes nothing.
-use Rattle.std.specs.Prelude.{Bool, cond, not, ◌&&◌, ◌||◌, ℕ, ltb, eqb, Float}
+use Rattle.std.specs.Prelude.{Bool, cond, not, ◌&&◌, ◌||◌, ℕ, ltb, eqb, Float, Option, Some, None}
 use Rattle.floats.specs.Doubles.{zero64}
 use Rattle.refusal.specs.Refusal.{number_of as numberOfRefusal}
 use Rattle.refusal.specs.declared.Refusal.TheVariants.{RetiredFilter}
 use Rattle.filters.specs.declared.FilterType.{FilterType}
 use Rattle.filters.specs.declared.FilterType.TheVariants.{Box, Bilinear, CatmullRom, Mitchell}
-use Rattle.filters.specs.declared.Picked.{Picked}
-use Rattle.filters.specs.declared.Picked.TheVariants.{Is, Retired}
+use Rattle.filters.specs.declared.Filter.{Filter}
 use Rattle.filters.specs.Names.{picked_of, is_retired}
 use Rattle.filters.specs.Filters.{value_of}
 use Rattle.crop_box.specs.declared.CropBox.{CropBox}
-use Rattle.crop_fit.specs.declared.Centring.{Centring}
-use Rattle.crop_fit.specs.declared.Centring.TheVariants.{Absent, At}
 use Rattle.crop_fit.specs.Fit.{fit_of, box_of, number_of as numberOfFitted}
 use Rattle.plans.specs.declared.Axis.{Axis}
 use Rattle.plans.specs.declared.Request.{Request}
@@ -42,17 +39,17 @@ abbrev pub axis_of : ℕ → Axis
 axis_of code = cond (eqb code 0) Across Down
 
 -- centring absent, or the two numbers
-abbrev pub centring_of : ℕ → Float → Float → Centring
-centring_of code across down = cond (eqb code 0) Absent (At across down)
+abbrev pub centring_of : ℕ → Float → Float → Option (Float × Float)
+centring_of code across down = cond (eqb code 0) None (Some (across, down))
 
 -- one filter's weight; a retired one has none, which is No. 16
-abbrev pub picked_number : Picked → ℕ
-picked_number (Is f) = 0
-picked_number Retired = numberOfRefusal RetiredFilter
+abbrev pub picked_number : Option Filter → ℕ
+picked_number (Some f) = 0
+picked_number None = numberOfRefusal RetiredFilter
 
-abbrev pub picked_weight : Picked → Float → Float
-picked_weight (Is f) x = value_of f x
-picked_weight Retired x = zero64
+abbrev pub picked_weight : Option Filter → Float → Float
+picked_weight (Some f) x = value_of f x
+picked_weight None x = zero64
 
 unfoldable pub filter_number : ℕ → ℕ
 filter_number filter = cond (no_filter filter) bad_code (picked_number (picked_of (filter_of filter)))

@@ -5,7 +5,6 @@
 ghost use Rattle.std.specs.Prelude.{◌≡◌};
 ghost use Rattle.codes.specs.Codes.{filter_of, code_of, axis_of, centring_of, no_codes};
 
-use crop_fit::Centring;
 use filters::FilterType;
 use plans::Axis;
 
@@ -48,13 +47,13 @@ pub fn axis_named(code: u32) -> Axis
 }
 
 // The centring of a flag: 0 absent, else the two numbers. No caller asks with a flag above 1.
-pub fn centring_named(code: u32, across: f64, down: f64) -> Centring
+pub fn centring_named(code: u32, across: f64, down: f64) -> Option<(f64, f64)>
     ensures answer { result ≡ centring_of code across down }
 {
     if code == 0 {
-        return Centring::Absent;
+        return None;
     }
-    Centring::At(across, down)
+    Some((across, down))
 }
 
 // Whether one of the builder's three codes names nothing. Axis and flag are not looked at where the filter is retired, which is refused before all else.

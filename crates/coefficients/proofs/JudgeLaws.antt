@@ -1,4 +1,5 @@
 -- The four equations of `build`, for each of its ways: a refusal, too few slots, and a set built or blank. Cited by the proof of `build`. Assumes nothing.
+use Rattle.std.specs.Prelude.{Result, Ok, Err}
 use mathlib.Core.Path.{◌≡◌, refl, sym, ap, ◌∙◌}
 use mathlib.Core.Bool.{true, false}
 use mathlib.Core.List.{List}
@@ -12,9 +13,8 @@ use Rattle.refusal.specs.declared.Refusal.{Refusal}
 use Rattle.refusal.specs.declared.Refusal.TheVariants.{TooFewSlots}
 use Rattle.plans.specs.declared.Request.{Request}
 use Rattle.plans.specs.declared.Plan.{Plan}
-use Rattle.plans.specs.declared.Planned.TheVariants.{Ready, Refused}
-use Rattle.coefficients.specs.declared.Built.{Built}
-use Rattle.coefficients.specs.declared.Built.TheVariants.{Done, Blank, Refused as BuildRefused}
+use Rattle.coefficients.specs.declared.NotBuilt.{NotBuilt}
+use Rattle.coefficients.specs.declared.NotBuilt.TheVariants.{Blank, Refused as BuildRefused}
 use Rattle.plan_windows.specs.Lines.{blank, first_blank, weights_in, starts_in, sizes_in}
 use Rattle.plans.specs.Plan.{plan_of}
 use Rattle.coefficients.specs.Request.{too_few_slots, judged, built, built_of, weights_of, starts_of, sizes_of}
@@ -35,33 +35,33 @@ module _ (p : Plan) (a b c : ℕ) where
   enough g h l = rw (le-ltb _ _ g, le-ltb _ _ h, le-ltb _ _ l)
 
 -- ---- the answer of a plan
-pub built_blank : (p : Plan) (line : ℕ) → line ≡ first_blank p → line < p.output → Blank (record { 0 = line }) ≡ built p
+pub built_blank : (p : Plan) (line : ℕ) → line ≡ first_blank p → line < p.output → Err (Blank (record { 0 = line })) ≡ built p
 built_blank p line e h =
-    ap (λ (k : ℕ). Blank (record { 0 = k })) e ∙ or_zero_blank p line (Blank (record { 0 = first_blank p })) (Done p.window) (sym e) h
+    ap (λ (k : ℕ). Err (Blank (record { 0 = k }))) e ∙ or_zero_blank p line (Err (Blank (record { 0 = first_blank p }))) (Ok p.window) (sym e) h
 
-pub built_done : (p : Plan) (line : ℕ) → line ≡ first_blank p → p.output ≤ line → Done p.window ≡ built p
+pub built_done : (p : Plan) (line : ℕ) → line ≡ first_blank p → p.output ≤ line → Ok p.window ≡ built p
 unfolding first_blank
 built_done p line e h =
     let l = first_le (blank p) 0 p.output in
-    or_zero_done p (Blank (record { 0 = first_blank p })) (Done p.window) (omega arith)
+    or_zero_done p (Err (Blank (record { 0 = first_blank p }))) (Ok p.window) (omega arith)
 
 module _ (q : Request) (ws : List Float) (ss zs : List ℕ) where
-  abbrev pub All : Built → List Float → List ℕ → List ℕ → Type 0
+  abbrev pub All : Result ℕ NotBuilt → List Float → List ℕ → List ℕ → Type 0
   All r ws' ss' zs' =
       (r ≡ built_of q (length ws) (length ss) (length zs))
       × ((ws' ≡ weights_of q (length ws) (length ss) (length zs) ws)
       × ((ss' ≡ starts_of q (length ws) (length ss) (length zs) ss) × (zs' ≡ sizes_of q (length ws) (length ss) (length zs) zs)))
 
-  pub all_refused : (refusal : Refusal) → plan_of q ≡ Refused refusal → All (BuildRefused refusal) ws ss zs
+  pub all_refused : (refusal : Refusal) → plan_of q ≡ Err refusal → All (Err (BuildRefused refusal)) ws ss zs
   unfolding judged
   all_refused refusal e = rw e (refl, (refl, (refl, refl)))
 
-  module _ (p : Plan) (e : plan_of q ≡ Ready p) where
-    pub all_short : too_few_slots p (length ws) (length ss) (length zs) ≡ true → All (BuildRefused TooFewSlots) ws ss zs
+  module _ (p : Plan) (e : plan_of q ≡ Ok p) where
+    pub all_short : too_few_slots p (length ws) (length ss) (length zs) ≡ true → All (Err (BuildRefused TooFewSlots)) ws ss zs
     unfolding judged
     all_short s = rw (e, s) (refl, (refl, (refl, refl)))
 
-    pub all_ready : (r : Built) (ws' : List Float) (ss' zs' : List ℕ) → too_few_slots p (length ws) (length ss) (length zs) ≡ false
+    pub all_ready : (r : Result ℕ NotBuilt) (ws' : List Float) (ss' zs' : List ℕ) → too_few_slots p (length ws) (length ss) (length zs) ≡ false
         → r ≡ built p → ws' ≡ weights_in p ws → ss' ≡ starts_in p ss → zs' ≡ sizes_in p zs → All r ws' ss' zs'
     unfolding judged
     all_ready r ws' ss' zs' s er ew es ez = rw (e, s) (er, (ew, (es, ez)))

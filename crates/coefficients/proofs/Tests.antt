@@ -1,12 +1,11 @@
 -- The tests of the builder in the order of judging, each with its number. Rows.antt proves that the answer is what they say. Cited by Rows.antt. Assumes nothing.
+use Rattle.std.specs.Prelude.{Option, Some, None}
 use mathlib.Core.Bool.{Bool, false, ◌||◌}
 use mathlib.Core.List.{List, [], ◌∷◌}
 use Prim.Native.Nat.{ℕ}
 use lib.Dec.{ltb}
 use Rattle.lists.specs.Ranges.{bad_sides_value}
 use Rattle.filters.specs.declared.Filter.{Filter}
-use Rattle.filters.specs.declared.Picked.{Picked}
-use Rattle.filters.specs.declared.Picked.TheVariants.{Is, Retired}
 use Rattle.filters.specs.Names.{picked_of, is_retired}
 use Rattle.crop_box.specs.Crop.{not_finite_value, negative_extent_value, start_outside_value, end_outside_value}
 use Rattle.plans.specs.declared.Edge.{Edge}
@@ -25,9 +24,9 @@ module _ (q : Request) (weights starts sizes : ℕ) where
   plan f = plan_for f q.adapts edge q.output
 
   -- a test of the plan, where the name picks a filter and so there is one
-  abbrev pub planned : (Plan → Bool) → Picked → Bool
-  planned test Retired = false
-  planned test (Is f) = test (plan f)
+  abbrev pub planned : (Plan → Bool) → Option Filter → Bool
+  planned test None = false
+  planned test (Some f) = test (plan f)
 
   -- No. 8: a window is blank
   abbrev pub some_blank : Plan → Bool

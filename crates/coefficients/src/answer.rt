@@ -1,39 +1,43 @@
-// The number of an answer, and the values beside it.
+// The number of a build that failed, and what a caller in C takes beside the number of any build.
 ghost use Rattle.std.specs.Prelude.{◌≡◌};
-ghost use Rattle.coefficients.specs.Answer.{number_of, line_of, window_of};
+ghost use Rattle.coefficients.specs.Answer.{not_built_number, refused_as, line_of, window_of};
 
-use crate::Built;
+use crate::NotBuilt;
+use refusal::{Numbered, Refusal};
 
-impl Built {
-    // Document 01's number: 0 for a set that was built, 8 for a blank window, else the refusal's.
-    pub fn number(self) -> u32
-        ensures answer { result ≡ number_of self }
-    {
+// 8 for a blank window, else the refusal's.
+impl Numbered for NotBuilt {
+    ghost number_of = { not_built_number };
+
+    fn number(&self) -> u32 {
         match self {
-            Built::Done(_) => 0,
-            Built::Blank(_) => 8,
-            Built::Refused(refusal) => refusal::number(refusal),
+            NotBuilt::Blank(_) => Refusal::BlankWindow.number(),
+            NotBuilt::Refused(refusal) => refusal.number(),
         }
     }
-    // The first blank display line, 0 beside every number but 8.
-    pub fn line(self) -> u32
-        ensures answer { result ≡ line_of self }
-    {
-        match self {
-            Built::Done(_) => 0,
-            Built::Blank(line) => line.0,
-            Built::Refused(_) => 0,
-        }
-    }
+}
 
-    // The window size of a set that was built, 0 beside every other number.
-    pub fn window_size(self) -> u32
-        ensures answer { result ≡ window_of self }
-    {
-        match self {
-            Built::Done(window_size) => window_size,
-            Built::Blank(_) => 0,
-            Built::Refused(_) => 0,
-        }
+impl From<Refusal> for NotBuilt {
+    ghost from_gives = { refused_as };
+
+    fn from(refusal: Refusal) -> NotBuilt {
+        NotBuilt::Refused(refusal)
     }
+}
+
+// The first blank display line, 0 beside every number but 8.
+pub fn line(built: Result<u32, NotBuilt>) -> u32
+    ensures answer { result ≡ line_of built }
+{
+    match built {
+        Err(NotBuilt::Blank(line)) => line.0,
+        _ => 0,
+    }
+}
+
+// The window size of a set that was built, 0 beside every other number.
+pub fn window_size(built: Result<u32, NotBuilt>) -> u32
+    ensures answer { result ≡ window_of built }
+{
+    built.unwrap_or(0)
 }

@@ -6,76 +6,59 @@ mod found;
 mod said;
 mod search;
 
-use frame_files::{Bytes, Whole, bytes_in};
-use std::fs::File;
+use frame_files::bytes_in;
+use said::{Compared, Uncompared};
 
 // The two parts that are compared stand here, apart from what looks at them.
 fn main(rt: HostRuntime) {
     let mut a = [0u8; 65536];
     let mut b = [0u8; 65536];
-    let n = program_streams::argument_count(rt);
-    if n < 4 {
-        return said::missing(rt);
+    match compared(rt, &mut a, &mut b) {
+        Ok(answer) => {
+            let _ = println!(rt; "{answer}");
+        }
+        Err(Uncompared::Row) => frame_files::no_number(rt, "row", "ROW"),
+        Err(why) => {
+            let _ = println!(rt; "{why}");
+        }
     }
-    answer(rt, n < 5, &mut a, &mut b);
 }
 
-// The row length, the two files and their lengths.
-fn answer(rt: HostRuntime, wide: bool, a: &mut [u8], b: &mut [u8]) {
-    let word = frame_files::whole_at(rt, 3);
-    let Whole::Is(row) = word else {
-        return frame_files::no_number(rt, b"row", b"ROW");
-    };
-    let Some(one) = frame_files::opened(rt, 1) else {
-        return said::unreadable(rt);
-    };
-    let long = frame_files::length(&one);
-    let Bytes::Are(bytes) = long else {
-        return said::unreadable(rt);
-    };
-    let Some(two) = frame_files::opened(rt, 2) else {
-        return said::unreadable(rt);
-    };
-    let other = frame_files::length(&two);
-    let Bytes::Are(others) = other else {
-        return said::unreadable(rt);
-    };
-    if bytes != others {
-        return said::lengths(rt, bytes, others);
+// The row length, the two files and their lengths; whole rows are compared.
+fn compared(rt: HostRuntime, a: &mut [u8], b: &mut [u8]) -> Result<Compared, Uncompared> {
+    let words = program_streams::argument_count(rt);
+    if words < 4 {
+        return Err(Uncompared::Words);
     }
-    rows(rt, &one, &two, row, bytes, wide, a, b);
+    let wide = words < 5;
+    let row = frame_files::whole_at(rt, 3).ok_or(Uncompared::Row)?;
+    let one = program_streams::opened(rt, 1)?;
+    let bytes = frame_files::length(&one)?;
+    let two = program_streams::opened(rt, 2)?;
+    let others = frame_files::length(&two)?;
+    if bytes != others {
+        return Err(Uncompared::Lengths(bytes, others));
+    }
+    if row == 0 || bytes.checked_rem(bytes_in(row, wide)) != Some(0) {
+        return Err(Uncompared::Rows(bytes, row));
+    }
+    let samples = samples_in(bytes, wide);
+    let found = search::search(&one, &two, samples, wide, a, b)?;
+    let row = row as u64;
+    Ok(match found.first {
+        None => Compared::Equal(samples),
+        Some(first) => Compared::Differ {
+            count: found.count,
+            samples,
+            line: first.at / row,
+            column: first.at % row,
+            a: first.a,
+            b: first.b,
+        },
+    })
 }
 
 // How many samples so many bytes are.
 fn samples_in(bytes: u64, wide: bool) -> u64 {
-    if wide {
-        return bytes / 2;
-    }
-    bytes
-}
-
-// Whole rows are compared.
-fn rows(
-    rt: HostRuntime,
-    one: &File,
-    two: &File,
-    row: u32,
-    bytes: u64,
-    wide: bool,
-    a: &mut [u8],
-    b: &mut [u8],
-) {
-    let each = bytes_in(row, wide);
-    if each == 0 {
-        return said::rows(rt, bytes, row);
-    }
-    if bytes % each != 0 {
-        return said::rows(rt, bytes, row);
-    }
-    let samples = samples_in(bytes, wide);
-    let f = search::search(one, two, samples, wide, a, b);
-    if f.failed {
-        return said::unreadable(rt);
-    }
-    said::found(rt, f, samples, row as u64);
+    if wide { bytes / 2 } else { bytes }
 }

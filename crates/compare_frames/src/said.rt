@@ -1,51 +1,69 @@
 // What is said of two frames, and why nothing is.
-use crate::found::Found;
-use sheet_files::streams::{out, out_number};
+use std::fmt::{Display, Formatter, Write};
+use std::{fmt, io};
 
-// Fewer words than three.
-pub(crate) fn missing(rt: HostRuntime) {
-    out(rt, b"unread=words\n");
+// Two frames with the same samples, so many; or so many samples of so many differ, and the first of them.
+#[derive(Clone, Copy)]
+pub(crate) enum Compared {
+    Equal(u64),
+    Differ {
+        count: u64,
+        samples: u64,
+        line: u64,
+        column: u64,
+        a: u16,
+        b: u16,
+    },
 }
 
-// One of the files could not be opened or read.
-pub(crate) fn unreadable(rt: HostRuntime) {
-    out(rt, b"unread=frame\n");
-}
-
-// Frames of different lengths.
-pub(crate) fn lengths(rt: HostRuntime, a: u64, b: u64) {
-    said(rt, b"unread=lengths a=", a);
-    said(rt, b" b=", b);
-    out(rt, b"\n");
-}
-
-// So many bytes are no whole rows of so many samples.
-pub(crate) fn rows(rt: HostRuntime, bytes: u64, row: u32) {
-    said(rt, b"unread=rows bytes=", bytes);
-    said(rt, b" row=", row as u64);
-    out(rt, b"\n");
-}
-
-// A word and its number.
-fn said(rt: HostRuntime, word: &[u8], n: u64) {
-    out(rt, word);
-    out_number(rt, n);
-}
-
-// What was found among so many samples of such rows.
-pub(crate) fn found(rt: HostRuntime, f: Found, samples: u64, row: u64) {
-    if f.count == 0 {
-        said(rt, b"equal=", samples);
-        return out(rt, b"\n");
+impl Display for Compared {
+    fn fmt<W: Write>(&self, f: &mut Formatter<W>) -> fmt::Result {
+        match *self {
+            Compared::Equal(samples) => write!(f, "equal={samples}"),
+            Compared::Differ {
+                count,
+                samples,
+                line,
+                column,
+                a,
+                b,
+            } => write!(
+                f,
+                "differ={count} of={samples} line={line} column={column} a={a} b={b}"
+            ),
+        }
     }
-    if row == 0 {
-        return;
+}
+
+// Why two frames are not compared.
+#[derive(Clone, Copy)]
+pub(crate) enum Uncompared {
+    // fewer words than three
+    Words,
+    // the row length is no number
+    Row,
+    // one of the files could not be opened or read
+    Frame,
+    // frames of different lengths
+    Lengths(u64, u64),
+    // so many bytes are no whole rows of so many samples
+    Rows(u64, u32),
+}
+
+impl From<io::Error> for Uncompared {
+    fn from(_error: io::Error) -> Uncompared {
+        Uncompared::Frame
     }
-    said(rt, b"differ=", f.count);
-    said(rt, b" of=", samples);
-    said(rt, b" line=", f.first / row);
-    said(rt, b" column=", f.first % row);
-    said(rt, b" a=", f.a as u64);
-    said(rt, b" b=", f.b as u64);
-    out(rt, b"\n");
+}
+
+impl Display for Uncompared {
+    fn fmt<W: Write>(&self, f: &mut Formatter<W>) -> fmt::Result {
+        match *self {
+            Uncompared::Words => write!(f, "unread=words"),
+            Uncompared::Row => write!(f, "unread=row why=number"),
+            Uncompared::Frame => write!(f, "unread=frame"),
+            Uncompared::Lengths(a, b) => write!(f, "unread=lengths a={a} b={b}"),
+            Uncompared::Rows(bytes, row) => write!(f, "unread=rows bytes={bytes} row={row}"),
+        }
+    }
 }

@@ -1,6 +1,7 @@
 -- For the customer: each of No. 1 to 5 is given exactly when its row of document 01's table says so and no row before it does, and No. 0
 -- exactly when no row does; so for every input one row applies and no other. The tests are `bad_sides_value` of `lists` and those of specs/Crop.antt.
 -- Cited by the builder and by docs/CONTRACTS.md. Assumes nothing.
+use Rattle.std.specs.Prelude.{Ok, Err}
 use mathlib.Core.Path.{◌≡◌, refl}
 use mathlib.Core.Bool.{Bool, true, false, cond}
 use mathlib.Core.List.{List, [], ◌∷◌}
@@ -11,11 +12,10 @@ use Rattle.lists.proofs.LadderLaws.{exactly_due}
 use Rattle.refusal.specs.declared.Refusal.TheVariants.{BadSide, NotFinite, NegativeExtent, StartOutside, EndOutside}
 use Rattle.crop_box.specs.Crop.{not_finite_value, negative_extent_value, start_outside_value, end_outside_value, crop_of, number_of}
 use Rattle.crop_box.specs.declared.CropBox.{CropBox}
-use Rattle.crop_box.specs.declared.Cropped.TheVariants.{Inside, Refused}
 
 numbered :
     (a b c d e : Bool) (x : CropBox)
-    → number_of (cond a (Refused BadSide) (cond b (Refused NotFinite) (cond c (Refused NegativeExtent) (cond d (Refused StartOutside) (cond e (Refused EndOutside) (Inside x))))))
+    → number_of (cond a (Err BadSide) (cond b (Err NotFinite) (cond c (Err NegativeExtent) (cond d (Err StartOutside) (cond e (Err EndOutside) (Ok x))))))
     ≡ cond a 1 (cond b 2 (cond c 3 (cond d 4 (cond e 5 0))))
 numbered true b c d e x = refl
 numbered false true c d e x = refl

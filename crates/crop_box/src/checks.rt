@@ -4,7 +4,7 @@ ghost use Rattle.lists.specs.Ranges.{bad_sides_value};
 ghost use Rattle.crop_box.specs.End.{FromZero, ends_past_value};
 ghost use Rattle.crop_box.specs.Crop.{crop_of, not_finite_value, negative_extent_value, start_outside_value, end_outside_value};
 
-use crate::{CropBox, Cropped};
+use crate::CropBox;
 use numbers::finite;
 use refusal::Refusal;
 
@@ -62,23 +62,23 @@ fn end_outside(w: u32, h: u32, b: CropBox) -> bool
 }
 
 // The box as it is, or the first refusal that applies, for any sides and any four numbers.
-pub fn crop(w: u32, h: u32, b: CropBox) -> Cropped
+pub fn crop(w: u32, h: u32, b: CropBox) -> Result<CropBox, Refusal>
     ensures answer { result ≡ crop_of w h b }
 {
     if bad_sides(w, h) {
-        return Cropped::Refused(Refusal::BadSide);
+        return Err(Refusal::BadSide);
     }
     if not_finite(b) {
-        return Cropped::Refused(Refusal::NotFinite);
+        return Err(Refusal::NotFinite);
     }
     if negative_extent(b) {
-        return Cropped::Refused(Refusal::NegativeExtent);
+        return Err(Refusal::NegativeExtent);
     }
     if start_outside(w, h, b) {
-        return Cropped::Refused(Refusal::StartOutside);
+        return Err(Refusal::StartOutside);
     }
     if end_outside(w, h, b) {
-        return Cropped::Refused(Refusal::EndOutside);
+        return Err(Refusal::EndOutside);
     }
-    Cropped::Inside(b)
+    Ok(b)
 }

@@ -1,11 +1,9 @@
 // `crop_box`: which part of the camera image is shown. `crop` judges a `CropBox` against the image's sides (No. 1 to 5). `crop_fit` makes a box.
 #![tactic(auto)]
 
-mod answer;
 mod checks;
 
 pub use checks::crop;
-use refusal::Refusal;
 
 // In camera lines and columns, from the upper left corner.
 #[derive(Clone, Copy)]
@@ -14,10 +12,4 @@ pub struct CropBox {
     pub top: f64,
     pub width: f64,
     pub height: f64,
-}
-
-#[derive(Clone, Copy)]
-pub enum Cropped {
-    Inside(CropBox),
-    Refused(Refusal),
 }

@@ -1,11 +1,9 @@
 -- The edge that a text stands for. Cited by `read_edge`'s contract. Bytes: 45 is a minus sign, 46 a point, 48 the digit 0, 120 an x.
 -- Definitions only. Assumes nothing.
-use Rattle.std.specs.Prelude.{ℕ, ◌+◌, ◌-◌, ◌^◌, Bool, cond, ◌&&◌, List, length, ◌==◌, from_bits, nat_le, nat_lt, slice_index}
+use Rattle.std.specs.Prelude.{ℕ, ◌+◌, ◌-◌, ◌^◌, Bool, cond, ◌&&◌, List, length, ◌==◌, Float, from_bits, nat_le, nat_lt, slice_index, Option, Some, None}
 use Rattle.std.specs.Float.{binary64}
 use Rattle.std.specs.Float.Ieee.{round}
 use Rattle.lists.specs.Tab.{first}
-use Rattle.crop_edges.specs.declared.Edge.{Edge}
-use Rattle.crop_edges.specs.declared.Edge.TheVariants.{At, Malformed}
 use Rattle.numerals.specs.Digits.{digits, numeral}
 
 -- `0x` and 16 hexadecimal digits
@@ -54,8 +52,8 @@ unfoldable pub whole_of_value : List ℕ → ℕ
 whole_of_value text = numeral 10 text (fraction_at_value text) (numeral 10 text (whole_at text) 0 (before_of_value text)) (places_of_value text)
 
 -- a pattern's double; else the double nearest to the whole number over the power of ten; else none
-unfoldable pub edge_of : List ℕ → Edge
+unfoldable pub edge_of : List ℕ → Option Float
 edge_of text =
-    cond (is_pattern_value text) (At (from_bits binary64 (pattern_of text)))
-    (cond (is_decimal_value text) (At (round binary64 (minus text) (whole_of_value text) (10 ^ places_of_value text)))
-    Malformed)
+    cond (is_pattern_value text) (Some (from_bits binary64 (pattern_of text)))
+    (cond (is_decimal_value text) (Some (round binary64 (minus text) (whole_of_value text) (10 ^ places_of_value text)))
+    None)

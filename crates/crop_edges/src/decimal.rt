@@ -12,10 +12,7 @@ use std::num::nearest_u64_to_f64;
 fn minus(text: &[u8]) -> bool
     ensures answer { result ≡ minus text.now }
 {
-    if text.len() == 0 {
-        return false;
-    }
-    text[0] == b'-'
+    !text.is_empty() && text[0] == b'-'
 }
 
 // Where the digits before the point begin.
@@ -29,15 +26,12 @@ fn whole_at(text: &[u8]) -> usize
 fn point_at(text: &[u8]) -> usize
     ensures answer { result ≡ point_at_value text.now }
 {
-    let n = text.len();
-    let mut k = whole_at(text);
-    while k < n {
+    for k in whole_at(text)..text.len() {
         if text[k] == b'.' {
             return k;
         }
-        k += 1;
     }
-    k
+    text.len()
 }
 
 // Where the digits after the point begin, the end where there is no point.
@@ -94,13 +88,7 @@ fn power(k: usize) -> u64
     requires { k ≤ 15 }
     ensures answer { result ≡ 10 ^ k }
 {
-    let mut p: u64 = 1;
-    let mut i: usize = 0;
-    while i < k {
-        p = p * 10;
-        i += 1;
-    }
-    p
+    10u64.pow(k as u32)
 }
 
 // The digits' whole number over the power of ten of the places after the point: both are exact, so the quotient is rounded once.

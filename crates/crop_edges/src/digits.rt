@@ -10,10 +10,8 @@ pub(crate) fn continued(base: u64, text: &[u8], a: usize, n: usize, v: u64) -> u
     ensures answer { result ≡ numeral base text.now a v n }
 {
     let mut sum = v;
-    let mut k: usize = 0;
-    while k < n {
+    for k in 0..n {
         sum = sum * base + figure(base, text[a + k]);
-        k += 1;
     }
     sum
 }

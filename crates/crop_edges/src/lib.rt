@@ -9,22 +9,15 @@ mod pattern;
 ghost use Rattle.std.specs.Prelude.{◌≡◌};
 ghost use Rattle.crop_edges.specs.Edge.{edge_of};
 
-// The double that a text stands for, or that it stands for none.
-#[derive(Drop)]
-pub enum Edge {
-    At(f64),
-    Malformed,
-}
-
-// The edge of any text.
-pub fn read_edge(text: &[u8]) -> Edge
+// The edge that a text stands for, if it stands for one.
+pub fn read_edge(text: &[u8]) -> Option<f64>
     ensures answer { result ≡ edge_of text.now }
 {
     if pattern::is_pattern(text) {
-        return Edge::At(pattern::of_pattern(text));
+        return Some(pattern::of_pattern(text));
     }
     if decimal::is_decimal(text) {
-        return Edge::At(decimal::of_decimal(text));
+        return Some(decimal::of_decimal(text));
     }
-    Edge::Malformed
+    None
 }

@@ -1,5 +1,6 @@
 -- For the customer: the fitting's No. 1 and 2 are given exactly when their row says so and no row before it does, and No. 0 exactly when no row does. The
 -- tests are those of specs/Fit.antt. Cited by docs/CONTRACTS.md. Assumes nothing.
+use Rattle.std.specs.Prelude.{Ok, Err, Option, Float}
 use mathlib.Core.Path.{◌≡◌, refl}
 use mathlib.Core.Bool.{Bool, true, false, cond}
 use mathlib.Core.List.{List, [], ◌∷◌}
@@ -9,16 +10,14 @@ use Rattle.lists.proofs.LadderLaws.{exactly_due}
 use Rattle.refusal.specs.declared.Refusal.TheVariants.{BadSide, NotFinite}
 use Rattle.crop_box.specs.declared.CropBox.{CropBox}
 use Rattle.crop_fit.specs.Fit.{large_sides_value, bad_centring, fitted_box, across_of, down_of, fit_of, number_of}
-use Rattle.crop_fit.specs.declared.Fitted.TheVariants.{Fit, Refused}
-use Rattle.crop_fit.specs.declared.Centring.{Centring}
 
-fit_numbered : (a b : Bool) (x : CropBox) → number_of (cond a (Refused BadSide) (cond b (Refused NotFinite) (Fit x))) ≡ cond a 1 (cond b 2 0)
+fit_numbered : (a b : Bool) (x : CropBox) → number_of (cond a (Err BadSide) (cond b (Err NotFinite) (Ok x))) ≡ cond a 1 (cond b 2 0)
 fit_numbered true b x = refl
 fit_numbered false true x = refl
 fit_numbered false false x = refl
 
 -- fitting: here No. 1 is only for sides above 8,192
-module _ (sw sh dw dh : ℕ) (at : Centring) where
+module _ (sw sh dw dh : ℕ) (at : Option (Float × Float)) where
   abbrev pub fit_rows : List (Bool × ℕ)
   fit_rows =
       (large_sides_value sw sh dw dh, 1)

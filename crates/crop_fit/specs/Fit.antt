@@ -1,18 +1,15 @@
 -- The fitting's answer: a test for No. 1, for No. 2 and for a zero side, the ratios, and the answer by cases in that order.
 -- Cited by the contract of `fit_src_into_dst_size`. Each operation is rounded once, in the order of the Rust.
 -- Definitions only. Assumes nothing.
-use Rattle.std.specs.Prelude.{Bool, false, not, ◌||◌, ◌&&◌, cond, ℕ, ltb, eqb, Float}
+use Rattle.std.specs.Prelude.{Bool, false, not, ◌||◌, ◌&&◌, cond, ℕ, ltb, eqb, Float, Result, Ok, Err, Option, Some, None}
 use Rattle.std.specs.Float.{binary64}
 use Rattle.std.specs.Float.Ieee.{of_bits, lt, le}
-use Rattle.refusal.specs.Refusal.{number_of as numberOfRefusal}
+use Rattle.refusal.specs.Refusal.{number_in}
 use Rattle.refusal.specs.declared.Refusal.TheVariants.{BadSide, NotFinite}
 use Rattle.floats.specs.Doubles.{is_finite, zero64, half64, one64, double, ◌minus◌, ◌times◌, ◌over◌}
 use Rattle.numbers.specs.Whole.{abs}
 use Rattle.crop_box.specs.declared.CropBox.{CropBox}
-use Rattle.crop_fit.specs.declared.Centring.{Centring}
-use Rattle.crop_fit.specs.declared.Centring.TheVariants.{Absent, At}
-use Rattle.crop_fit.specs.declared.Fitted.{Fitted}
-use Rattle.crop_fit.specs.declared.Fitted.TheVariants.{Fit, Refused}
+use Rattle.refusal.specs.declared.Refusal.{Refusal}
 
 -- x clamped to 0..1; minus zero stays as it is
 abbrev pub clamped : Float → Float
@@ -23,9 +20,9 @@ abbrev pub large_sides_value : ℕ → ℕ → ℕ → ℕ → Bool
 large_sides_value sw sh dw dh = ((ltb 8192 sw || ltb 8192 sh) || ltb 8192 dw) || ltb 8192 dh
 
 -- No. 2: a centring number is NaN or infinite, judged before it is clamped
-abbrev pub bad_centring : Centring → Bool
-bad_centring Absent = false
-bad_centring (At across down) = not (is_finite across && is_finite down)
+abbrev pub bad_centring : Option (Float × Float) → Bool
+bad_centring None = false
+bad_centring (Some (across, down)) = not (is_finite across && is_finite down)
 
 -- any side is 0
 abbrev pub zero_side_value : ℕ → ℕ → ℕ → ℕ → Bool
@@ -40,13 +37,13 @@ abbrev pub epsilon64 : Float
 epsilon64 = of_bits binary64 0x3cb0_0000_0000_0000
 
 -- absent centring means 0.5, 0.5
-abbrev pub across_of : Centring → Float
-across_of Absent = half64
-across_of (At across down) = clamped across
+abbrev pub across_of : Option (Float × Float) → Float
+across_of None = half64
+across_of (Some (across, down)) = clamped across
 
-abbrev pub down_of : Centring → Float
-down_of Absent = half64
-down_of (At across down) = clamped down
+abbrev pub down_of : Option (Float × Float) → Float
+down_of None = half64
+down_of (Some (across, down)) = clamped down
 
 -- a box of a crop width and height, placed in the source by the centring
 abbrev pub placed_box : Float → Float → Float → Float → Float → Float → CropBox
@@ -66,18 +63,17 @@ fitted_box sw sh dw dh across down =
     cond (zero_side_value sw sh dw dh) (source_box sw sh) (ratio_box_value (double sw) (double sh) (double dw over double dh) across down)
 
 -- No. 1, then No. 2, then the box
-unfoldable pub fit_of : ℕ → ℕ → ℕ → ℕ → Centring → Fitted
+unfoldable pub fit_of : ℕ → ℕ → ℕ → ℕ → Option (Float × Float) → Result CropBox Refusal
 fit_of sw sh dw dh centring =
-    cond (large_sides_value sw sh dw dh) (Refused BadSide)
-    (cond (bad_centring centring) (Refused NotFinite)
-    (Fit (fitted_box sw sh dw dh (across_of centring) (down_of centring))))
+    cond (large_sides_value sw sh dw dh) (Err BadSide)
+    (cond (bad_centring centring) (Err NotFinite)
+    (Ok (fitted_box sw sh dw dh (across_of centring) (down_of centring))))
 
 -- the paper's number for each answer of the fitting
-abbrev pub number_of : Fitted → ℕ
-number_of (Fit b) = 0
-number_of (Refused refusal) = numberOfRefusal refusal
+abbrev pub number_of : Result CropBox Refusal → ℕ
+number_of = number_in
 
 -- and the box beside it: 0 in all four numbers on a refusal
-abbrev pub box_of : Fitted → CropBox
-box_of (Fit b) = b
-box_of (Refused refusal) = record { left = zero64; top = zero64; width = zero64; height = zero64 }
+abbrev pub box_of : Result CropBox Refusal → CropBox
+box_of (Ok b) = b
+box_of (Err refusal) = record { left = zero64; top = zero64; width = zero64; height = zero64 }

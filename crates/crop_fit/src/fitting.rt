@@ -2,8 +2,8 @@
 ghost use Rattle.std.specs.Prelude.{◌≡◌};
 ghost use Rattle.crop_fit.specs.Fit.{fit_of, large_sides_value, zero_side_value, fitted_box};
 
+use crate::clamp01;
 use crate::ratios::ratio_box;
-use crate::{Centring, Fitted, clamp01};
 use crop_box::CropBox;
 use numbers::finite;
 use refusal::Refusal;
@@ -53,22 +53,20 @@ pub fn fit_src_into_dst_size(
     src_height: u32,
     dst_width: u32,
     dst_height: u32,
-    centring: Centring,
-) -> Fitted
+    centring: Option<(f64, f64)>,
+) -> Result<CropBox, Refusal>
     ensures answer { result ≡ fit_of src_width src_height dst_width dst_height centring }
 {
     if large_sides(src_width, src_height, dst_width, dst_height) {
-        return Fitted::Refused(Refusal::BadSide);
+        return Err(Refusal::BadSide);
     }
     match centring {
-        Centring::Absent => Fitted::Fit(fitted(
-            src_width, src_height, dst_width, dst_height, 0.5, 0.5,
-        )),
-        Centring::At(across, down) => {
+        None => Ok(fitted(src_width, src_height, dst_width, dst_height, 0.5, 0.5)),
+        Some((across, down)) => {
             if !(finite(across) & finite(down)) {
-                return Fitted::Refused(Refusal::NotFinite);
+                return Err(Refusal::NotFinite);
             }
-            Fitted::Fit(fitted(
+            Ok(fitted(
                 src_width,
                 src_height,
                 dst_width,

@@ -5,7 +5,7 @@
 
 mod picture;
 
-use frame_files::Whole;
+use std::io;
 
 // One line's samples and bytes stand here, apart from what fills them.
 fn main(rt: HostRuntime) {
@@ -14,29 +14,29 @@ fn main(rt: HostRuntime) {
     sized(rt, &mut samples, &mut bytes);
 }
 
-// The two words.
+// The two words. What the system said of a write that failed is told.
 fn sized(rt: HostRuntime, samples: &mut [u16], bytes: &mut [u8]) {
-    let first = frame_files::whole_at(rt, 1);
-    let Whole::Is(lines) = first else {
-        return frame_files::no_number(rt, b"lines", b"LINES");
+    let Some(lines) = frame_files::whole_at(rt, 1) else {
+        return frame_files::no_number(rt, "lines", "LINES");
     };
-    let second = frame_files::whole_at(rt, 2);
-    let Whole::Is(row) = second else {
-        return frame_files::no_number(rt, b"row", b"ROW");
+    let Some(row) = frame_files::whole_at(rt, 2) else {
+        return frame_files::no_number(rt, "row", "ROW");
     };
-    cut(rt, lines, row, samples, bytes);
+    if let Err(why) = written(rt, lines, row as usize, samples, bytes) {
+        program_streams::failed(rt, b"the frame cannot be written", why);
+    }
 }
 
-// The parts of the two lists that a line has; of rows that are longer nothing is made.
-fn cut(rt: HostRuntime, lines: u32, row: u32, samples: &mut [u16], bytes: &mut [u8]) {
-    let a: usize = 0;
-    let n = row as usize;
-    let e = n * 2;
-    if samples.len() < n {
-        return;
+// The frame, from the parts of the two lists that a line has; of rows that are longer nothing is made.
+fn written(
+    rt: HostRuntime,
+    lines: u32,
+    row: usize,
+    samples: &mut [u16],
+    bytes: &mut [u8],
+) -> io::Result<()> {
+    if samples.len() < row || bytes.len() / 2 < row {
+        return Ok(());
     }
-    if bytes.len() < e {
-        return;
-    }
-    picture::lines(rt, lines, &mut samples[a..n], &mut bytes[a..e]);
+    picture::lines(rt, lines, &mut samples[..row], &mut bytes[..row * 2])
 }

@@ -1,37 +1,54 @@
 // The picture, line by line.
 ghost use Rattle.std.specs.Prelude.{◌≤◌};
 
-use std::io::{Error, Write};
+use std::io;
+use std::io::Write;
 
-// Where the noise begins.
-const SEED: u64 = 20210;
-
-// The number of the noise after another; each has 31 bits.
-fn next(seed: u64) -> u64 {
-    (seed % 2147483648 * 1103515245 + 12345) % 2147483648
+// Noise from a fixed seed.
+#[derive(Drop)]
+struct Noise {
+    seed: u64,
 }
 
-// A sample of noise: the upper 16 of the 31 bits.
-fn noise(seed: u64) -> u64
-    ensures { result ≤ 65535 }
-{
-    seed / 32768 % 65536
+impl Noise {
+    const START: Noise = Noise { seed: 20210 };
+
+    // A sample of it: the upper 16 of the next number's 31 bits.
+    fn sample(&mut self) -> u64
+        ensures { result ≤ 65535 }
+    {
+        self.seed = (self.seed % 2147483648 * 1103515245 + 12345) % 2147483648;
+        self.seed / 32768 % 65536
+    }
+}
+
+// What a column shows.
+#[derive(Clone, Copy)]
+enum Panel {
+    Ramp,
+    Bars,
+    Slope,
+    Noise,
+}
+
+// The panel of a column: four of them side by side.
+fn shown(j: u32, row: u32) -> Panel {
+    match (j as u64 * 4).checked_div(row as u64) {
+        None | Some(0) => Panel::Ramp,
+        Some(1) => Panel::Bars,
+        Some(2) => Panel::Slope,
+        Some(_) => Panel::Noise,
+    }
 }
 
 // From black to white, down the lines.
 fn ramp(i: u32, lines: u32) -> u64 {
-    if lines == 0 {
-        return 0;
-    }
-    i as u64 * 65535 / lines as u64
+    (i as u64 * 65535).checked_div(lines as u64).unwrap_or(0)
 }
 
 // Bars of twelve lines, nearly black and nearly white.
 fn bar(i: u32) -> u64 {
-    if i / 12 % 2 == 0 {
-        return 3000;
-    }
-    62000
+    if i / 12 % 2 == 0 { 3000 } else { 62000 }
 }
 
 // A ramp that begins again and again, across lines and columns.
@@ -39,65 +56,45 @@ fn slope(i: u32, j: u32) -> u64 {
     (i as u64 * 31 + j as u64 * 97) % 65536
 }
 
-// The panel of a column, from 0 to 3.
-fn panel(j: u32, row: u32) -> u64 {
-    if row == 0 {
-        return 0;
-    }
-    j as u64 * 4 / row as u64
-}
-
 // What a panel shows at a line and a column, without its grain.
-fn plain(i: u32, lines: u32, j: u32, row: u32, seed: u64) -> u64 {
-    let k = panel(j, row);
-    if k == 0 {
-        return ramp(i, lines);
+fn plain(i: u32, lines: u32, j: u32, row: u32, noise: u64) -> u64 {
+    match shown(j, row) {
+        Panel::Ramp => ramp(i, lines),
+        Panel::Bars => bar(i),
+        Panel::Slope => slope(i, j),
+        Panel::Noise => noise,
     }
-    if k == 1 {
-        return bar(i);
-    }
-    if k == 2 {
-        return slope(i, j);
-    }
-    noise(seed)
 }
 
 // With a grain of one part in 64.
-fn grained(x: u64, seed: u64) -> u16 {
-    ((x % 65536 * 63 + noise(seed)) / 64 % 65536) as u16
+fn grained(x: u64, noise: u64) -> u16 {
+    ((x % 65536 * 63 + noise % 65536) / 64 % 65536) as u16
 }
 
 // The samples of a line; the noise goes on behind them.
-fn line(i: u32, lines: u32, first: u64, samples: &mut [u16]) -> u64 {
+fn line(i: u32, lines: u32, noise: &mut Noise, samples: &mut [u16]) {
     let row = samples.len();
     if 32768 < row {
-        return first;
+        return;
     }
-    let mut seed = first;
-    let mut j: usize = 0;
-    while j < row {
-        seed = next(seed);
-        samples[j] = grained(plain(i, lines, j as u32, row as u32, seed), seed);
-        j += 1;
+    for (j, sample) in samples.iter_mut().enumerate() {
+        let grain = noise.sample();
+        *sample = grained(plain(i, lines, j as u32, row as u32, grain), grain);
     }
-    seed
-}
-
-// What the system said of the write stands behind it.
-fn unwritten(rt: HostRuntime, why: Error) {
-    program_streams::failed(rt, b"the frame cannot be written", why);
 }
 
 // All lines, each written as soon as it is made.
-pub(crate) fn lines(rt: HostRuntime, lines: u32, samples: &mut [u16], bytes: &mut [u8]) {
-    let mut seed = SEED;
-    let mut i: u32 = 0;
-    while i < lines {
-        seed = line(i, lines, seed, samples);
+pub(crate) fn lines(
+    rt: HostRuntime,
+    lines: u32,
+    samples: &mut [u16],
+    bytes: &mut [u8],
+) -> io::Result<()> {
+    let mut noise = Noise::START;
+    for i in 0..lines {
+        line(i, lines, &mut noise, samples);
         frame_files::encode(samples, bytes);
-        if let Err(why) = Write::write_all(&mut rt.stdout(), bytes) {
-            return unwritten(rt, why);
-        }
-        i += 1;
+        Write::write_all(&mut rt.stdout(), bytes)?;
     }
+    Ok(())
 }

@@ -14,8 +14,7 @@ use Rattle.sheet.specs.Text.{list_text, excess_text}
 use Rattle.scan.specs.Form.{Form, Found, Stopped}
 use Rattle.scan.specs.Forms.{fixed, run, run_text, RunGood}
 use Rattle.scan.proofs.FormLaws.{stopped_same, run_of}
-use Rattle.scan.specs.declared.Place.{Place}
-use Rattle.scan.specs.declared.Place.TheVariants.{Past, Stop}
+use Rattle.std.specs.Prelude.{Result, Ok, Err}
 use Rattle.scan.specs.Answer.{Passes}
 use Rattle.scan.proofs.FieldLaws.{apart_key}
 use Rattle.scan.proofs.TailLaws.{tail_found, tail_no_first, tail_other}
@@ -77,6 +76,6 @@ module _ (p : ℕ) (rows : List Row) (n : ℕ) (e : length rows ≡ n) (some : 1
   pub line_no_key : {stop : ℕ} → Stopped (fixed key_excess) text at stop → Stopped (fixed (excess_line p rows)) text at stop
   line_no_key {stop} s = subst (λ (t : List ℕ). Stopped (fixed t) text at stop) (line_is p rows n e some) (tail_no_first (fixed key_excess) (tail_of p rows n) s)
 
-  pub line_passes : {mid : ℕ} (r : Place) → Found (fixed key_excess) text at tt mid → Passes (fixed (tail_of p rows n tt)) text mid r → Passes (fixed (excess_line p rows)) text at r
-  line_passes (Past next) f g = (tt, subst (λ (t : List ℕ). Found (fixed t) text at tt next) (line_is p rows n e some) (tail_found (fixed key_excess) (tail_of p rows n) f g.1))
-  line_passes (Stop stop) f g = subst (λ (t : List ℕ). Stopped (fixed t) text at stop) (line_is p rows n e some) (tail_other (fixed key_excess) (tail_of p rows n) (apart_key key_excess) f g)
+  pub line_passes : {mid : ℕ} (r : Result ℕ ℕ) → Found (fixed key_excess) text at tt mid → Passes (fixed (tail_of p rows n tt)) text mid r → Passes (fixed (excess_line p rows)) text at r
+  line_passes (Ok next) f g = (tt, subst (λ (t : List ℕ). Found (fixed t) text at tt next) (line_is p rows n e some) (tail_found (fixed key_excess) (tail_of p rows n) f g.1))
+  line_passes (Err stop) f g = subst (λ (t : List ℕ). Stopped (fixed t) text at stop) (line_is p rows n e some) (tail_other (fixed key_excess) (tail_of p rows n) (apart_key key_excess) f g)

@@ -4,3 +4,4 @@ pub mod LineLaws
 pub mod TotalLaws
 pub mod KnownLaws
 pub mod CompareLaws
+pub mod SureLaws

@@ -1,5 +1,5 @@
 // `excess_scan`: the line of the excesses, looked over beside the windows' lines that were scanned before: `scan_excesses` works out each window's excess from its line and
-// compares. It gives the place after the line, or where the text leaves the one right text. The pieces of a right window's line are lent to the reader too.
+// compares. It answers `Ok` with the place after the line, or `Err` with the place where the text leaves the one right text. The pieces of a right window's line are lent to the reader too.
 #![tactic(auto)]
 
 mod line;
@@ -9,14 +9,6 @@ mod totals;
 pub use line::scan_excesses;
 pub use pieces::{opened, weight};
 pub use totals::window_excess;
-
-// The beginning of a window's line: its first camera line, its count of lines and the place of its weights.
-#[derive(Drop)]
-pub struct WindowAt {
-    pub start: u32,
-    pub size: u32,
-    pub next: usize,
-}
 
 // A signed number and the place after what it was read from.
 #[derive(Drop)]

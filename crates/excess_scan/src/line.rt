@@ -10,9 +10,9 @@ ghost use Rattle.excess_scan.specs.Known.{known_text};
 
 use crate::pieces::opened;
 use crate::totals::window_excess;
-use scan::{Place, take_key, take_known};
+use scan::{take_key, take_known};
 use sheet::keys;
-use sheet_scan::{item_end, place_stop};
+use sheet_scan::item_end;
 
 // The excesses by commas and a newline, of the windows whose lines are at `mid`.
 fn scan_list(
@@ -24,7 +24,7 @@ fn scan_list(
     text: &[u8],
     mid: usize,
     at: usize,
-) -> Place
+) -> Result<usize, usize>
     requires le_lines { (1 ≤ lines) × (lines ≤ 8192) × (1 ≤ window) × (1 ≤ limit) × (limit ≤ 2 ^ 31) × (precision ≤ 45) }
     requires mid_in_bounds { (mid ≤ length text.now) × (at ≤ length text.now) }
     requires there { There (window_lines lines window limit outs) text.now mid }
@@ -32,19 +32,13 @@ fn scan_list(
 {
     let mut p = mid;
     let mut q = at;
-    let mut i: u32 = 0;
-    while i < outs {
+    for i in 0..outs {
         let line = opened(i, lines, window, text, p);
         let e = window_excess(precision, limit, line.size, text, line.next);
-        let item = take_known(e.value, item_end(i, outs), text, q);
-        let Place::Past(next) = item else {
-            return Place::Stop(place_stop(item));
-        };
+        q = take_known(e.value, item_end(i, outs), text, q)?;
         p = e.next;
-        q = next;
-        i += 1;
     }
-    Place::Past(q)
+    Ok(q)
 }
 
 // The whole line at a place of the text.
@@ -57,14 +51,12 @@ pub fn scan_excesses(
     text: &[u8],
     mid: usize,
     at: usize,
-) -> Place
+) -> Result<usize, usize>
     requires le_lines { (1 ≤ lines) × (lines ≤ 8192) × (1 ≤ outs) × (1 ≤ window) × (1 ≤ limit) × (limit ≤ 2 ^ 31) × (precision ≤ 45) }
     requires mid_in_bounds { (mid ≤ length text.now) × (at ≤ length text.now) }
     requires there { There (window_lines lines window limit outs) text.now mid }
     ensures answer { Whatever (window_lines lines window limit outs) text.now mid (λ rows next. Passes (fixed (excess_line precision rows)) text.now at result) }
 {
-    match take_key(&keys::EXCESS, text, at) {
-        Place::Stop(stop) => Place::Stop(stop),
-        Place::Past(next) => scan_list(lines, outs, window, limit, precision, text, mid, next),
-    }
+    let next = take_key(&keys::EXCESS, text, at)?;
+    scan_list(lines, outs, window, limit, precision, text, mid, next)
 }

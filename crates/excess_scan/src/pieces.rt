@@ -4,9 +4,9 @@ ghost use Rattle.scan.specs.Form.{Found};
 ghost use Rattle.sheet_scan.specs.Lines.{weight_item, open_line};
 ghost use Rattle.sheet_scan.specs.Whole.{There};
 
-use crate::{Value, WindowAt};
-use scan::{Signed, take_signed};
-use sheet_scan::{Open, item_end, take_open};
+use crate::Value;
+use scan::take_signed;
+use sheet_scan::{WindowAt, item_end, take_open};
 
 // The beginning of the line of window i.
 pub fn opened(i: u32, lines: u32, window: u32, text: &[u8], at: usize) -> WindowAt
@@ -14,14 +14,7 @@ pub fn opened(i: u32, lines: u32, window: u32, text: &[u8], at: usize) -> Window
     requires there { There (open_line lines window i) text.now at }
     ensures answer { Found (open_line lines window i) text.now at (result.start, result.size) result.next }
 {
-    match take_open(i, lines, window, text, at) {
-        Open::Window(start, size, next) => WindowAt { start, size, next },
-        Open::NoWindow(stop) => WindowAt {
-            start: 0,
-            size: 0,
-            next: stop,
-        },
-    }
+    take_open(i, lines, window, text, at).unwrap()
 }
 
 // Weight j of a window of `size` lines.
@@ -30,11 +23,6 @@ pub fn weight(limit: u64, size: u32, j: u32, text: &[u8], at: usize) -> Value
     requires there { There (weight_item limit size j) text.now at }
     ensures answer { Found (weight_item limit size j) text.now at result.value result.next }
 {
-    match take_signed(limit, item_end(j, size), text, at) {
-        Signed::Whole(value, next) => Value { value, next },
-        Signed::Never(stop) => Value {
-            value: 0,
-            next: stop,
-        },
-    }
+    let (value, next) = take_signed(limit, item_end(j, size), text, at).unwrap();
+    Value { value, next }
 }

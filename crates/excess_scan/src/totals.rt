@@ -19,12 +19,10 @@ fn total(limit: u64, size: u32, text: &[u8], at: usize) -> Value
 {
     let mut t: i64 = 0;
     let mut p = at;
-    let mut j: u32 = 0;
-    while j < size {
+    for j in 0..size {
         let w = weight(limit, size, j, text, p);
         t = add(t, w.value);
         p = w.next;
-        j += 1;
     }
     Value { value: t, next: p }
 }

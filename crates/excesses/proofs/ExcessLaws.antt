@@ -1,6 +1,6 @@
 -- Where windows stand in their slots, for a loop that goes from window to window, and what its turn finds. Cited by the judge and the writer of excesses. Assumes nothing.
-use mathlib.Core.Path.{◌≡◌, refl, ◌∙◌}
-use mathlib.Core.Bool.{Bool, ◌||◌}
+use mathlib.Core.Path.{◌≡◌, refl, sym, ◌∙◌}
+use mathlib.Core.Bool.{Bool, true, false, ◌||◌}
 use mathlib.Core.List.{List}
 use Prim.Native.Nat.{ℕ, ◌+◌, ◌*◌, ◌<◌, ◌≤◌}
 use native.Mathlib.Nat.{mul-le-mul}
@@ -9,6 +9,8 @@ use native.Mathlib.Omega.{arith}
 use lib.IntN.{ℤ}
 use lib.ListN.{length, get_or}
 use Rattle.lists.specs.Tab.{any}
+use Rattle.lists.proofs.AnyLaws.{any_none}
+use Rattle.lists.proofs.BoolLaws.{never}
 use Rattle.lists.proofs.TabLaws.{row_end}
 use Rattle.windows.specs.Set.{excess}
 use Rattle.windows.specs.Fit.{InSlots}
@@ -33,3 +35,11 @@ any_turn t i eb er = rw (add-one, eb, er)
 -- what a call said of a window, its slots beginning at a
 pub excess_is : (ws : List ℤ) (p n a b : ℕ) {z : ℤ} → z ≡ excess p (slot_from ws a) n → a ≡ b → z ≡ excess p (slot_from ws b) n
 excess_is ws p n a b ez ea = ez ∙ rw ea refl
+
+-- one of a row of tests passes: so does the row
+pub some_any : (t : ℕ → Bool) (n k : ℕ) → k < n → t k ≡ true → any n t ≡ true
+some_any t n k l h = go (any n t) refl
+  where
+    go : (b : Bool) → any n t ≡ b → b ≡ true
+    go true e = refl
+    go false e = never (sym h ∙ any_none t n e k l)

@@ -1,6 +1,6 @@
 -- A stored set's excesses are right exactly where none is bad: as many as windows, each its window's. Cited by the promises, wherever a set was judged or made. Assumes nothing.
-use mathlib.Core.Path.{◌≡◌, ap}
-use mathlib.Core.Bool.{Bool, false, not, ◌||◌}
+use mathlib.Core.Path.{◌≡◌, refl, ap}
+use mathlib.Core.Bool.{Bool, true, false, not, ◌||◌}
 use Prim.Native.Nat.{ℕ, ◌<◌}
 use native.Mathlib.Nat.{le_refl, le_antisymm}
 use lib.Dec.{eqb, ltb}
@@ -28,6 +28,13 @@ not_differ x y e = rw e (itself y)
     itself : (x : ℤ) → differ x x ≡ false
     itself (pos a) = rw (le-ltb a a (le_refl a))
     itself (negsuc a) = rw (le-ltb a a (le_refl a))
+
+pub differ_other : (x y : ℤ) → (x ≡ y → ⊥) → differ x y ≡ true
+differ_other x y h = go (differ x y) refl
+  where
+    go : (b : Bool) → differ x y ≡ b → b ≡ true
+    go true q = refl
+    go false q = absurd (h (alike x y q))
 
 module _ (s : Stored) where
   abbrev full : Bool

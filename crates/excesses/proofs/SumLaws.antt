@@ -1,28 +1,20 @@
 -- Sums of weights as the machine holds them in 64 bits: they fit, and read back as themselves. Cited by the functions that add weights up. Assumes nothing.
-use mathlib.Core.Path.{◌≡◌, refl, ap, ◌∙◌}
-use mathlib.Core.Bool.{Bool, true, false}
-use mathlib.Core.List.{List}
+use mathlib.Core.Path.{◌≡◌, refl, ◌∙◌}
 use Prim.Native.Nat.{ℕ, ◌+◌, ◌*◌, ◌^◌, ◌<◌, ◌≤◌}
 use native.Mathlib.Nat.{lt_of_le_of_lt}
 use native.Mathlib.Numerals.{add-one}
 use native.Mathlib.Omega.{arith}
 use lib.IntN.{ℤ, pos, nat_abs, neg_ℤ, ◌+ℤ◌, ◌-ℤ◌}
-use lib.ListN.{length}
 use lib.Signed.{mag}
 use mir.Facts.{to_z-of_z}
-use mir.Syntax.{Width, w64}
+use mir.Syntax.{w64}
 use mir.Val.{SFits, to_z, of_z}
 use Rattle.lists.proofs.TabLaws.{row_next}
 use Rattle.integers.specs.Sums.{sum}
 use Rattle.integers.proofs.Parts.{neg_parts, size_parts, add_size, mag_size}
-use Rattle.windows.specs.Set.{lent}
 
 pub back : {z : ℤ} → mag z < 2 ^ 63 → to_z w64 (of_z w64 z) ≡ z
 back h = to_z-of_z {w = w64} (record { sfits = h })
-
--- a weight of a narrower type, widened
-pub wide_back : (w : Width) (x : ℤ) → SFits w x → SFits w64 x → to_z w64 (of_z w64 (to_z w (of_z w x))) ≡ x
-wide_back w x f g = ap (λ (z : ℤ). to_z w64 (of_z w64 z)) (to_z-of_z f) ∙ to_z-of_z g
 
 wide_fits : (z : ℤ) → nat_abs z < 2 ^ 63 → SFits w64 z
 wide_fits z h = record { sfits = lt_of_le_of_lt (mag_size z) h }
@@ -55,8 +47,3 @@ sum_more f k = rw add-one
 
 pub size_more : (t w : ℤ) (k : ℕ) → nat_abs t ≤ k * 2 ^ 31 → nat_abs w ≤ 2 ^ 31 → nat_abs (t +ℤ w) ≤ (k + 1) * 2 ^ 31
 size_more t w k h l = omega (arith, add_size t w, row_next (k * 2 ^ 31) k (2 ^ 31) refl)
-
--- a list in either width is as long as lists can be
-pub lent_long : (wide : Bool) (short long : List ℤ) → length short < 2 ^ 64 → length long < 2 ^ 64 → length (lent wide short long) < 2 ^ 64
-lent_long true short long s l = l
-lent_long false short long s l = s

@@ -1,6 +1,6 @@
-// `excesses`: by how much each window's weights pass 2^precision, worked out, written and judged. `stored_fits16` and `stored_fits32` are the one judge of a stored set,
-// which the passes over integers and the sheet writers ask: sides, windows, counts, precision, excesses (`unfit`, No. 1 and No. 10). Both stores are one function over two
-// lists, of which a store has one. The other functions are lent to the normalisers, the writers and the readers.
+// `excesses`: by how much each window's weights pass 2^precision, worked out, written and judged. `stored_fits` is the one judge of a stored set, which the passes over
+// integers and the sheet writers ask, as `stored_fits16` and `stored_fits32`: sides, windows, counts, precision, excesses (`unfit`, No. 1 and No. 10). Each is written once,
+// over the weights of any store. The other functions are lent to the normalisers, the writers and the readers.
 #![tactic(auto)]
 
 mod judge;
@@ -11,14 +11,8 @@ ghost use Rattle.windows.specs.Set.{layout_of, set_of, stored_of};
 ghost use Rattle.windows.specs.Store.{store16, store32};
 ghost use Rattle.windows.specs.Fit.{unfit};
 
-use judge::stored_fits;
-pub use sums::{add, excess_of, power, weight_at, write_excesses};
-use windows::{STORE16, STORE32};
-
-// lent in place of the list that a store has not
-pub const NO_SHORT: [i16; 1] = [0];
-
-pub const NO_LONG: [i32; 1] = [0];
+pub use judge::stored_fits;
+pub use sums::{add, excess_of, power, write_excesses};
 
 // Whether a set with weights of 16 bits fits, for any numbers and lists.
 pub fn stored_fits16(
@@ -33,13 +27,10 @@ pub fn stored_fits16(
     ensures answer { result ≡ not (unfit (stored_of (set_of (layout_of lines window_size starts.now sizes.now) weights.now) precision excesses.now) store16) }
 {
     stored_fits(
-        STORE16,
         lines,
         window_size,
         precision,
-        false,
         weights,
-        &NO_LONG,
         starts,
         sizes,
         excesses,
@@ -59,12 +50,9 @@ pub fn stored_fits32(
     ensures answer { result ≡ not (unfit (stored_of (set_of (layout_of lines window_size starts.now sizes.now) weights.now) precision excesses.now) store32) }
 {
     stored_fits(
-        STORE32,
         lines,
         window_size,
         precision,
-        true,
-        &NO_SHORT,
         weights,
         starts,
         sizes,

@@ -1,40 +1,56 @@
-// The fields of a request that are the port's own: `kind_at`, a filter's kind, and `box_at`, a crop box.
+// The fields of a request that are the port's own: a filter's name and a crop box.
 #![tactic(auto)]
 
 use crop_box::CropBox;
 use filters::FilterType;
-use request_fields::fields;
+use request_fields::{Fault, Kind, Words};
 use sheet::keys;
 
-#[derive(Drop)]
-pub enum Kind {
-    Is(FilterType),
-    Unknown,
+// A word that is to be a filter's name. It is looked up once all other words are right, since its fault is told last.
+#[derive(Clone, Copy)]
+pub struct Name<'a> {
+    name: &'a [u8],
+    fault: Fault,
 }
 
-// Word k as the name of a filter.
-pub fn kind_at(line: &[u8], k: usize) -> Kind {
-    if fields::is(line, k, &keys::BOX) {
-        return Kind::Is(FilterType::Box);
+impl<'a> Name<'a> {
+    // The next word.
+    pub fn read(words: &mut Words<'a>) -> Result<Name<'a>, Fault> {
+        let name = words.word()?;
+        let fault = words.not(Kind::Filter);
+        Ok(Name { name, fault })
     }
-    if fields::is(line, k, &keys::BILINEAR) {
-        return Kind::Is(FilterType::Bilinear);
+
+    // That it is no filter's.
+    pub fn fault(self) -> Fault {
+        self.fault
     }
-    if fields::is(line, k, &keys::CATMULL_ROM) {
-        return Kind::Is(FilterType::CatmullRom);
+
+    // The filter.
+    pub fn filter(self) -> Result<FilterType, Fault> {
+        let name = self.name;
+        if name == keys::BOX.as_slice() {
+            return Ok(FilterType::Box);
+        }
+        if name == keys::BILINEAR.as_slice() {
+            return Ok(FilterType::Bilinear);
+        }
+        if name == keys::CATMULL_ROM.as_slice() {
+            return Ok(FilterType::CatmullRom);
+        }
+        if name == keys::MITCHELL.as_slice() {
+            return Ok(FilterType::Mitchell);
+        }
+        Err(self.fault)
     }
-    if fields::is(line, k, &keys::MITCHELL) {
-        return Kind::Is(FilterType::Mitchell);
-    }
-    Kind::Unknown
 }
 
-// Four words as left, top, width and height.
-pub fn box_at(line: &[u8], left: usize, top: usize, width: usize, height: usize) -> CropBox {
-    CropBox {
-        left: fields::double(line, left),
-        top: fields::double(line, top),
-        width: fields::double(line, width),
-        height: fields::double(line, height),
-    }
+// The next four words as left, top, width and height.
+pub fn crop(words: &mut Words<'_>) -> Result<CropBox, Fault> {
+    Ok(CropBox {
+        left: words.number()?,
+        top: words.number()?,
+        width: words.number()?,
+        height: words.number()?,
+    })
 }

@@ -27,13 +27,6 @@ pub enum Filter {
     CatmullRom,
 }
 
-// What a name picks: a filter, or none, since it is retired.
-#[derive(Clone, Copy)]
-pub enum Picked {
-    Is(Filter),
-    Retired,
-}
-
 // How far from its centre the filter reaches.
 pub fn support(f: Filter) -> f64
     ensures answer { result ≡ support_of f }

@@ -2,17 +2,17 @@
 ghost use Rattle.std.specs.Prelude.{◌≡◌};
 ghost use Rattle.filters.specs.Names.{picked_of, is_retired};
 
-use crate::{Filter, FilterType, Picked};
+use crate::{Filter, FilterType};
 
 // The filter that a set of this name is built with, or none.
-pub fn pick(kind: FilterType) -> Picked
+pub fn pick(kind: FilterType) -> Option<Filter>
     ensures answer { result ≡ picked_of kind }
 {
     match kind {
-        FilterType::Box => Picked::Is(Filter::Box),
-        FilterType::Bilinear => Picked::Is(Filter::Bilinear),
-        FilterType::CatmullRom => Picked::Is(Filter::CatmullRom),
-        FilterType::Mitchell => Picked::Retired,
+        FilterType::Box => Some(Filter::Box),
+        FilterType::Bilinear => Some(Filter::Bilinear),
+        FilterType::CatmullRom => Some(Filter::CatmullRom),
+        FilterType::Mitchell => None,
     }
 }
 

@@ -20,10 +20,8 @@ fn infinities(out: &[f32]) -> u32
     ensures { result ≡ infinitiesOf out.now }
 {
     let mut n: u32 = 0;
-    let mut k: usize = 0;
-    while k < out.len() {
-        n = n + one(out[k]);
-        k = k + 1;
+    for sample in out {
+        n += one(*sample);
     }
     n
 }

@@ -2,7 +2,7 @@
 ghost use Rattle.std.specs.Prelude.{◌≡◌, true, false, ℕ, ◌+◌, ◌*◌, ◌<◌, ◌≤◌, T, length, get_or};
 ghost use Rattle.finite_f32.specs.Scan.{is_zero_value, flag, Small, Finite, FiniteSamples, SmallSamples};
 
-use super::scan::{all_zero, is_zero, lines16, wide, zero_step};
+use super::scan::{all_zero, is_zero, lines16, zero_step};
 
 // The columns from `from` on of one line, in one lane.
 pub fn rest(z0: f32, src: &[f32], at: usize, from: usize, count: usize) -> f32
@@ -12,10 +12,8 @@ pub fn rest(z0: f32, src: &[f32], at: usize, from: usize, count: usize) -> f32
     ensures t_2 { T (is_zero_value z0) → Finite src.now at from count → T (is_zero_value result) }
 {
     let mut z = z0;
-    let mut x = from;
-    while x < count {
+    for x in from..count {
         z = zero_step(z, src[at + x]);
-        x = x + 1;
     }
     z
 }
@@ -38,10 +36,8 @@ fn rests(
     ensures t_3 { T (is_zero_value z0) → ((y : ℕ) → from ≤ y → y < to → Finite src.now (y * row + first) start count) → T (is_zero_value result) }
 {
     let mut z = z0;
-    let mut y = from;
-    while y < to {
+    for y in from..to {
         z = rest(z, src, y * row + first, start, count);
-        y = y + 1;
     }
     z
 }
@@ -89,17 +85,15 @@ pub fn samples_fit(
     let mut z: f32 = 0.0;
     let mut lo: usize = 0;
     let mut hi: usize = 0;
-    let mut i: usize = 0;
-    while i < starts.len() {
-        let a = wide(starts[i]);
-        let e = a + wide(sizes[i]);
+    for i in 0..starts.len() {
+        let a = starts[i] as usize;
+        let e = a + sizes[i] as usize;
         let b = resume(a, lo, hi);
         let m = lines16(zz, src, row, first, n, b, e);
         zz = m;
         z = rests(z, src, row, first, n * 16, count, b, e);
         lo = a;
         hi = greater(b, e);
-        i = i + 1;
     }
     if !all_zero(zz) {
         return false;

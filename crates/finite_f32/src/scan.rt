@@ -5,12 +5,6 @@ ghost use Rattle.std.specs.Float.{binary32, nan};
 ghost use Rattle.std.specs.Float.Ieee.{mul, fits};
 ghost use Rattle.finite_f32.specs.Scan.{is_zero_value, flag, Zeros, Flags, Made, Small, Finite};
 
-pub(crate) fn wide(x: u32) -> usize
-    ensures { result ≡ x }
-{
-    x as usize
-}
-
 // One sample more in a lane.
 pub(crate) fn zero_step(z: f32, s: f32) -> f32
     ensures value { result ≡ mul binary32 z s }
@@ -34,26 +28,21 @@ pub(crate) fn all_zero(zz: [f32; 16]) -> bool
     ensures fact { result ≡ false → ((t : ℕ) → t < 16 → T (is_zero_value (get_or zz t nan))) → ⊥ }
 {
     let mut z: f32 = 0.0;
-    let mut t: usize = 0;
-    while t < 16 {
-        z = zero_step(z, zz[t]);
-        t = t + 1;
+    for lane in zz {
+        z = zero_step(z, lane);
     }
     is_zero(z)
 }
 
-// Sixteen samples more.
-fn zero16(zz: [f32; 16], src: &[f32], at: usize) -> [f32; 16]
-    requires zz_len { length zz ≡ 16 }
-    requires at_in_bounds { at + 16 ≤ length src.now }
-    ensures result_len { length result ≡ 16 }
-    ensures made { Made 16 zz result src.now at }
+// A sample more in each of N lanes, those from `at` on.
+pub(crate) fn zero_steps<const N: usize>(zz: [f32; N], src: &[f32], at: usize) -> [f32; N]
+    requires { at + N ≤ length src.now }
+    ensures result_len { length result ≡ N }
+    ensures made { Made N zz.entry result src.now at }
 {
     let mut r = zz;
-    let mut t: usize = 0;
-    while t < 16 {
+    for t in 0..N {
         r[t] = zero_step(r[t], src[at + t]);
-        t = t + 1;
     }
     r
 }
@@ -66,11 +55,9 @@ fn zeros(z0: [f32; 16], src: &[f32], at: usize, n: usize) -> [f32; 16]
     ensures zeros { Zeros 16 z0 → Finite src.now at 0 (n * 16) → Zeros 16 result }
 {
     let mut zz = z0;
-    let mut q: usize = 0;
-    while q < n {
-        let m = zero16(zz, src, at + q * 16);
+    for q in 0..n {
+        let m = zero_steps(zz, src, at + q * 16);
         zz = m;
-        q = q + 1;
     }
     zz
 }
@@ -92,11 +79,9 @@ pub(crate) fn lines16(
     ensures zeros { Zeros 16 z0 → ((y : ℕ) → from ≤ y → y < to → Finite src.now (y * row + first) 0 (n * 16)) → Zeros 16 result }
 {
     let mut zz = z0;
-    let mut y = from;
-    while y < to {
+    for y in from..to {
         let m = zeros(zz, src, y * row + first, n);
         zz = m;
-        y = y + 1;
     }
     zz
 }

@@ -4,8 +4,6 @@ ghost use Rattle.std.specs.Float.{nan};
 ghost use Rattle.floats.specs.Within.{AtMost};
 ghost use Rattle.finite_f32.specs.Scan.{SmallWeights};
 
-use super::scan::wide;
-
 // Whether one weight is at most 2^64 in size. A NaN fails the first test.
 fn weight_fits(w: f64) -> bool
     ensures at_most { result ≡ true → AtMost w (2 ^ 64) }
@@ -23,14 +21,7 @@ fn window_fits(ws: &[f64], a: usize, size: usize) -> bool
     ensures at_most { result ≡ true → (k : ℕ) → k < size → AtMost (get_or ws.now (a + k) nan) (2 ^ 64) }
     ensures fact { result ≡ false → ((k : ℕ) → k < size → AtMost (get_or ws.now (a + k) nan) (2 ^ 64)) → ⊥ }
 {
-    let mut k: usize = 0;
-    while k < size {
-        if !weight_fits(ws[a + k]) {
-            return false;
-        }
-        k = k + 1;
-    }
-    true
+    ws[a..a + size].iter().all(|w| weight_fits(*w))
 }
 
 // Whether those of every window are.
@@ -40,12 +31,10 @@ pub fn weights_fit(ws: &[f64], starts: &[u32], sizes: &[u32], window: usize) -> 
     ensures small_weights { result ≡ true → SmallWeights starts.now sizes.now window ws.now }
     ensures fact { result ≡ false → SmallWeights starts.now sizes.now window ws.now → ⊥ }
 {
-    let mut i: usize = 0;
-    while i < starts.len() {
-        if !window_fits(ws, i * window, wide(sizes[i])) {
+    for (i, size) in sizes.iter().enumerate() {
+        if !window_fits(ws, i * window, *size as usize) {
             return false;
         }
-        i = i + 1;
     }
     true
 }

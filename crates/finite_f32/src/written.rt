@@ -1,25 +1,8 @@
 // The samples that the pass writes, sixteen at a time before they are stored: four lanes, a multiplication for four samples, and one test at the very end.
-ghost use Rattle.std.specs.Prelude.{◌≡◌, true, ℕ, ◌+◌, ◌<◌, ◌≤◌, length, get_or};
-ghost use Rattle.std.specs.Float.{nan};
-ghost use Rattle.finite_f32.specs.Scan.{Made, Zeros, Flags, Small};
+ghost use Rattle.std.specs.Prelude.{◌≡◌, true, length};
+ghost use Rattle.finite_f32.specs.Scan.{Zeros, Flags, Small};
 
-use super::scan::{is_zero, zero_step};
-
-// Four samples more, those from `at` on.
-fn zero4(zz: [f32; 4], ys: [f32; 16], at: usize) -> [f32; 4]
-    requires zz_len { length zz ≡ 4 }
-    requires at_bound { at + 4 ≤ 16 }
-    ensures result_len { length result ≡ 4 }
-    ensures made { Made 4 zz result ys at }
-{
-    let mut r = zz;
-    let mut t: usize = 0;
-    while t < 4 {
-        r[t] = zero_step(r[t], ys[at + t]);
-        t = t + 1;
-    }
-    r
-}
+use super::scan::{is_zero, zero_step, zero_steps};
 
 // Sixteen samples more, four to a lane.
 pub fn sixteen(zz: [f32; 4], ys: [f32; 16]) -> [f32; 4]
@@ -27,10 +10,10 @@ pub fn sixteen(zz: [f32; 4], ys: [f32; 16]) -> [f32; 4]
     ensures result_len { (length result ≡ 4) × Flags 4 result × (Zeros 4 result → Zeros 4 zz) }
     ensures small { Zeros 4 result → Small ys 0 0 16 }
 {
-    let a = zero4(zz, ys, 0);
-    let b = zero4(a, ys, 4);
-    let c = zero4(b, ys, 8);
-    zero4(c, ys, 12)
+    let a = zero_steps(zz, &ys, 0);
+    let b = zero_steps(a, &ys, 4);
+    let c = zero_steps(b, &ys, 8);
+    zero_steps(c, &ys, 12)
 }
 
 // Whether all four lanes are zeros still.

@@ -8,7 +8,7 @@ mod octets;
 mod said;
 mod shape;
 
-pub use numbers::{Whole, times, whole_at};
-pub use octets::{decode, encode, value_of};
+pub use numbers::{times, whole_at};
+pub use octets::{decode, encode};
 pub use said::{no_frame, no_number};
-pub use shape::{Bytes, bytes_in, length, opened, row};
+pub use shape::{bytes_in, length, opened, row};

@@ -1,29 +1,14 @@
 // Whole numbers: one among the arguments, and the product of two.
-use numerals::Number;
+use numerals::NumberError;
 
-// A whole number read; one above 2^32 - 1 is held there, where no place is.
-#[derive(Drop)]
-pub enum Whole {
-    Is(u32),
-    Malformed,
-}
-
-fn narrowed(x: u64) -> u32 {
-    if 0xffff_ffff < x {
-        return 0xffff_ffff;
-    }
-    x as u32
-}
-
-// Argument i as a whole number.
-pub fn whole_at(rt: HostRuntime, i: usize) -> Whole {
-    let mut word = [0u8; 64];
-    let n = program_streams::argument(rt, i, &mut word);
-    let read = numerals::read_number(10, &word, 0, n, 0xffff_ffff);
-    match read {
-        Number::Is(x) => Whole::Is(narrowed(x)),
-        Number::TooLarge => Whole::Is(0xffff_ffff),
-        Number::Malformed => Whole::Malformed,
+// Argument i as a whole number; one above 2^32 - 1 is held there, where no place is.
+pub fn whole_at(rt: HostRuntime, i: usize) -> Option<u32> {
+    let mut room = [0u8; 64];
+    let word = program_streams::argument(rt, i, &mut room);
+    match numerals::read_number(10, word, 0, word.len(), 0xffff_ffff) {
+        Ok(x) => Some(u32::try_from(x).unwrap_or(u32::MAX)),
+        Err(NumberError::TooLarge) => Some(u32::MAX),
+        Err(NumberError::Malformed) => None,
     }
 }
 

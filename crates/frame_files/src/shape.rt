@@ -3,27 +3,18 @@ ghost use Rattle.std.specs.Prelude.{◌≤◌};
 
 use crate::said;
 use std::fs::File;
+use std::io;
 use std::io::{Seek, SeekFrom};
-
-// How many bytes a file has; or it cannot be read by places.
-#[derive(Drop)]
-pub enum Bytes {
-    Are(u64),
-    Failed,
-}
 
 // The file that argument i names, where it can be opened.
 pub fn opened(rt: HostRuntime, i: usize) -> Option<File> {
     program_streams::opened(rt, i).ok()
 }
 
-// The length of an opened file.
-pub fn length(file: &File) -> Bytes {
+// The length of an opened file; or it cannot be read by places.
+pub fn length(file: &File) -> io::Result<u64> {
     let mut at = file;
-    match at.seek(SeekFrom::End(0)) {
-        Ok(end) => Bytes::Are(end),
-        Err(_) => Bytes::Failed,
-    }
+    at.seek(SeekFrom::End(0))
 }
 
 // The bytes of so many samples, two each where they are wide.
@@ -36,33 +27,28 @@ pub fn bytes_in(samples: u32, wide: bool) -> u64
     samples as u64
 }
 
-// The row length of a file of so many bytes for so many lines; 0 where it is none.
-fn row_of(bytes: u64, lines: u32, wide: bool) -> u64 {
+// The row length of a file of so many bytes for so many lines, if it is a frame of such lines.
+fn row_of(bytes: u64, lines: u32, wide: bool) -> Option<u64> {
     let each = bytes_in(lines, wide);
-    if each == 0 {
-        return 0;
+    if bytes == 0 || each == 0 || bytes % each != 0 {
+        return None;
     }
-    if bytes % each != 0 {
-        return 0;
-    }
-    bytes / each
+    Some(bytes / each)
 }
 
-// The row length of the frame that argument 2 names, opened, for so many lines; where it is 0 there is none, and why has been said.
-pub fn row(rt: HostRuntime, file: &File, lines: u32, wide: bool) -> u32 {
-    let long = length(file);
-    let Bytes::Are(bytes) = long else {
+// The row length of an opened frame of so many lines; where there is none, why has been said.
+pub fn row(rt: HostRuntime, file: &File, lines: u32, wide: bool) -> Option<u32> {
+    let Ok(bytes) = length(file) else {
         said::no_frame(rt);
-        return 0;
+        return None;
     };
-    let row = row_of(bytes, lines, wide);
-    if row == 0 {
+    let Some(row) = row_of(bytes, lines, wide) else {
         said::misfit(rt, bytes, lines, wide);
-        return 0;
-    }
+        return None;
+    };
     if 32768 < row {
         said::long_rows(rt, row);
-        return 0;
+        return None;
     }
-    row as u32
+    Some(row as u32)
 }

@@ -20,8 +20,7 @@ fn line_weight(f: Filter, c: f64, recip: f64, x: CameraLine) -> f64
 pub fn lead(f: Filter, c: f64, recip: f64, start: CameraLine, stop: CameraLine) -> Weighed
     ensures answer { (result.line.0 ≡ lead_of f c recip start.0 stop.0) × (result.weight ≡ first_weight f c recip result.line.0 (stop.0 - result.line.0)) }
 {
-    let mut x = start.0;
-    while x < stop.0 {
+    for x in start.0..stop.0 {
         let w = line_weight(f, c, recip, CameraLine(x));
         if !(w == 0.0) {
             return Weighed {
@@ -29,10 +28,9 @@ pub fn lead(f: Filter, c: f64, recip: f64, start: CameraLine, stop: CameraLine) 
                 weight: w,
             };
         }
-        x += 1;
     }
     Weighed {
-        line: CameraLine(x),
+        line: CameraLine(start.0.max(stop.0)),
         weight: 0.0,
     }
 }
@@ -48,14 +46,10 @@ pub fn weigh(f: Filter, c: f64, recip: f64, a: Weighed, n: usize, row: &mut [f64
     }
     row[0] = a.weight;
     let mut total = 0.0 + a.weight;
-    let mut x = a.line.0;
-    let mut k: usize = 1;
-    while k < n {
-        x += 1;
-        let w = line_weight(f, c, recip, CameraLine(x));
+    for k in 1..n {
+        let w = line_weight(f, c, recip, CameraLine(a.line.0 + k as u32));
         row[k] = w;
         total = total + w;
-        k += 1;
     }
     total
 }
@@ -65,6 +59,7 @@ pub fn trim(n: usize, row: &[f64]) -> usize
     requires { n ≤ length row.now }
     ensures answer { result ≡ up_to (weighty row.now) n }
 {
+    // counted down by hand: `for k in (1..=n).rev()` reads the same slot k - 1 and is no plainer
     let mut k = n;
     while 0 < k {
         let j = k - 1;
@@ -90,10 +85,7 @@ fn share(n: usize, total: f64, k: usize, w: f64) -> f64
 pub fn finish(n: usize, total: f64, row: &mut [f64])
     ensures written { row.new ≡ tab 0 (length row.old) (share_at n total row.old) }
 {
-    let len = row.len();
-    let mut k: usize = 0;
-    while k < len {
+    for k in 0..row.len() {
         row[k] = share(n, total, k, row[k]);
-        k += 1;
     }
 }

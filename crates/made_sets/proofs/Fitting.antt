@@ -1,5 +1,6 @@
 -- A set that was built is one that no test of the normaliser refuses but that of its weights: sides, lists and windows fit, by what every window of a sound plan keeps. So of
 -- the normaliser's numbers a set that is made can meet 9 alone. Cited by the rows of the shared store. Assumes nothing.
+use Rattle.std.specs.Prelude.{Result, Ok, Err}
 use mathlib.Core.Path.{◌≡◌, refl, sym, ap, ◌∙◌}
 use mathlib.Core.Bool.{Bool, true, false, cond, ◌||◌}
 use Prim.Native.Nat.{ℕ, ◌+◌, ◌*◌, ◌≤◌, ◌<◌}
@@ -21,13 +22,11 @@ use Rattle.plans.specs.declared.Plan.{Plan}
 use Rattle.plans.proofs.PlanLaws.{plan_sound}
 use Rattle.plan_windows.specs.Lines.{lead, size, slot, slots}
 use Rattle.plan_windows.proofs.WindowLaws.{Fits, window_fits}
-use Rattle.coefficients.specs.declared.Built.TheVariants.{Done}
 use Rattle.coefficients.specs.Answer.{number_of}
 use Rattle.coefficients.specs.Request.{built_of}
 use Rattle.coefficients.proofs.BuiltLaws.{done_lines}
 use Rattle.weight_precision.specs.Precision.{precision}
-use Rattle.normalizer.specs.declared.Normalized.{Normalized}
-use Rattle.normalizer.specs.declared.Normalized.TheVariants.{Done as Normal, Refused as NormalRefused}
+use Rattle.refusal.specs.declared.Refusal.{Refusal}
 use Rattle.normalizer.specs.Answer.{too_few_slots, bad_weights, normalized_of}
 use Rattle.made_sets.specs.Made.{planned_set, Made, after_normal, made_of, answer_of}
 use Rattle.made_sets.proofs.Choice.{made_done}
@@ -48,7 +47,7 @@ window_good lines w start size h k e = rw (in_range size w h k, le-ltb lines (st
 at : (f : ℕ → ℕ) (n k : ℕ) → k < n → get_or (tab 0 n f) k 0 ≡ f k
 at f n k l = get_d_tab 0 n f k 0 l ∙ ap f (zero-add k)
 
-module _ (q : Request) (n w : ℕ) (done : built_of q n 8192 8192 ≡ Done w) where
+module _ (q : Request) (n w : ℕ) (done : built_of q n 8192 8192 ≡ Ok w) where
   abbrev p : Plan
   p = plan q n w done
 
@@ -93,12 +92,12 @@ module _ (q : Request) (n w : ℕ) (done : built_of q n 8192 8192 ≡ Done w) wh
   set_fits = neither counts_are (none_any (bad_at (planned_set p).layout) (windows (planned_set p).layout) (λ i h. each_fits i (lt_of_lt_of_le h (le_of_eq windows_are))))
 
   -- what the normaliser answers: 9, or the precision
-  normal_is : normalized_of store32 (planned_set p) n 8192 ≡ cond (bad_weights store32 (planned_set p) n 8192) (NormalRefused WeightOutside) (Normal (precision store32 (planned_set p).weights))
+  normal_is : normalized_of store32 (planned_set p) n 8192 ≡ cond (bad_weights store32 (planned_set p) n 8192) (Err WeightOutside) (Ok (precision store32 (planned_set p).weights))
   unfolding normalized_of
   normal_is = rw (sides_fit, room_there, set_fits)
 
   -- so the answer's number is 9, or 0
-  number_by : (t : Bool) (k : ℕ) → number_of (answer_of (after_normal (planned_set p) (cond t (NormalRefused WeightOutside) (Normal k)))) ≡ cond t 9 0
+  number_by : (t : Bool) (k : ℕ) → number_of (answer_of (after_normal (planned_set p) (cond t (Err WeightOutside) (Ok k)))) ≡ cond t 9 0
   unfolding after_normal answer_of
   number_by true k = refl
   number_by false k = refl
@@ -106,5 +105,5 @@ module _ (q : Request) (n w : ℕ) (done : built_of q n 8192 8192 ≡ Done w) wh
   pub made_number : number_of (answer_of (made_of q n)) ≡ cond (bad_weights store32 (planned_set p) n 8192) 9 0
   made_number =
       ap (λ (m : Made). number_of (answer_of m)) (made_done q n w done)
-      ∙ ap (λ (y : Normalized). number_of (answer_of (after_normal (planned_set p) y))) normal_is
+      ∙ ap (λ (y : Result ℕ Refusal). number_of (answer_of (after_normal (planned_set p) y))) normal_is
       ∙ number_by (bad_weights store32 (planned_set p) n 8192) _

@@ -1,5 +1,6 @@
 -- What is known where the builder answered with a set: the lists that it was lent begin with the plan's own set, whatever they held before, and the set is one that no test of
 -- the normaliser refuses but that of its weights. Cited by Making and Made. Assumes nothing.
+use Rattle.std.specs.Prelude.{Ok}
 use mathlib.Core.Path.{◌≡◌, refl, sym, ap, ◌∙◌}
 use mathlib.Core.Bool.{◌||◌}
 use mathlib.Core.List.{List, ◌++◌, append_assoc}
@@ -18,12 +19,10 @@ use Rattle.plans.specs.declared.Axis.{Axis}
 use Rattle.plans.specs.declared.Axis.TheVariants.{Across, Down}
 use Rattle.plans.specs.declared.Request.{Request}
 use Rattle.plans.specs.declared.Plan.{Plan}
-use Rattle.plans.specs.declared.Planned.TheVariants.{Ready}
 use Rattle.plans.specs.Plan.{edge_of, plan_of}
 use Rattle.plans.proofs.PlanLaws.{plan_by_fact}
 use Rattle.plan_windows.specs.Lines.{slots, lead, size, slot}
 use Rattle.plan_windows.proofs.LineLaws.{or_zero_done}
-use Rattle.coefficients.specs.declared.Built.TheVariants.{Done}
 use Rattle.coefficients.specs.Request.{judged, built_of, weights_of, starts_of, sizes_of}
 use Rattle.coefficients.proofs.BuiltLaws.{DoneSet, done_set}
 use Rattle.made_sets.specs.Made.{planned_set}
@@ -40,7 +39,7 @@ unfolding edge_of
 side_of_edge Across w h b c = refl
 side_of_edge Down w h b c = refl
 
-pub kept_by : (q : Request) (p : Plan) → plan_of q ≡ Ready p → Kept q p
+pub kept_by : (q : Request) (p : Plan) → plan_of q ≡ Ok p → Kept q p
 kept_by q p = plan_by_fact q p (Kept q) (λ f is b ok some few w. record { outputs = refl; side_is = side_of_edge q.axis q.width q.height b q.crop; some = some })
 
 -- ---- the beginning that was written, through a lent beginning
@@ -54,7 +53,7 @@ begins {A = A} k m n f left old e is =
 set_same : {l l1 w w1 : ℕ} {ks ks1 : List Float} {ss ss1 zs zs1 : List ℕ} → l1 ≡ l → w1 ≡ w → ks1 ≡ ks → ss1 ≡ ss → zs1 ≡ zs → set_of (layout_of l1 w1 ss1 zs1) ks1 ≡ set_of (layout_of l w ss zs) ks
 set_same e1 e2 e3 e4 e5 = rw (e1, e2, e3, e4, e5)
 
-module _ (q : Request) (n w : ℕ) (done : built_of q n 8192 8192 ≡ Done w) where
+module _ (q : Request) (n w : ℕ) (done : built_of q n 8192 8192 ≡ Ok w) where
   pub planned : DoneSet q n 8192 8192 w
   planned = done_set q n 8192 8192 w done
 

@@ -1,6 +1,6 @@
 -- What a request makes in a share of so many slots: a set of the 32-bit store, or the answer that refuses it; a function of request and share alone. Cited by the
 -- machine of `shares` and by the contract of `make`. Definitions only. Assumes nothing.
-use Rattle.std.specs.Prelude.{ℕ, ◌*◌, Float}
+use Rattle.std.specs.Prelude.{ℕ, ◌*◌, Float, Result, Ok, Err}
 use Rattle.lists.specs.Tab.{tab, grid}
 use Rattle.refusal.specs.declared.Refusal.{Refusal}
 use Rattle.windows.specs.Set.{layout_of, Set, set_of, Stored, stored_of, windows}
@@ -9,12 +9,10 @@ use Rattle.plans.specs.declared.Request.{Request}
 use Rattle.plans.specs.declared.Plan.{Plan}
 use Rattle.plans.specs.Plan.{plan_of}
 use Rattle.plan_windows.specs.Lines.{lead, size, slot, slots, first_blank, or_zero}
-use Rattle.coefficients.specs.declared.Built.{Built}
-use Rattle.coefficients.specs.declared.Built.TheVariants.{Done, Blank, Refused}
+use Rattle.coefficients.specs.declared.NotBuilt.{NotBuilt}
+use Rattle.coefficients.specs.declared.NotBuilt.TheVariants.{Blank, Refused}
 use Rattle.coefficients.specs.Request.{judged}
 use Rattle.weight_slots.specs.Slots.{slot_at}
-use Rattle.normalizer.specs.declared.Normalized.{Normalized}
-use Rattle.normalizer.specs.declared.Normalized.TheVariants.{Done as Normal, Refused as NormalRefused}
 use Rattle.normalizer.specs.Answer.{normalized_of, excess_at}
 
 -- the windows of a plan as a set of doubles
@@ -31,15 +29,15 @@ stored_at d precision =
     precision
     (tab 0 (windows d.layout) (excess_at store32 precision d))
 
--- a new set, or the answer that refuses it
+-- a new set, or why there is none
 pub data Made : Type 0 where
   new : Stored → Made
-  none : Built → Made
+  none : NotBuilt → Made
 
 -- by the normaliser's answer
-unfoldable pub after_normal : Set Float → Normalized → Made
-after_normal d (Normal precision) = new (stored_at d precision)
-after_normal d (NormalRefused refusal) = none (Refused refusal)
+unfoldable pub after_normal : Set Float → Result ℕ Refusal → Made
+after_normal d (Ok precision) = new (stored_at d precision)
+after_normal d (Err refusal) = none (Refused refusal)
 
 abbrev pub refused_by : Refusal → Made
 refused_by refusal = none (Refused refusal)
@@ -52,6 +50,6 @@ made_of q share =
     (λ p. or_zero p (none (Blank (record { 0 = first_blank p }))) (after_normal (planned_set p) (normalized_of store32 (planned_set p) share 8192)))
 
 -- the answer: with a new set its window size
-unfoldable pub answer_of : Made → Built
-answer_of (new s) = Done s.set.layout.window_size_value
-answer_of (none answer) = answer
+unfoldable pub answer_of : Made → Result ℕ NotBuilt
+answer_of (new s) = Ok s.set.layout.window_size_value
+answer_of (none error) = Err error

@@ -5,12 +5,39 @@ ghost use Rattle.windows.specs.Store.{store16, store32};
 ghost use Rattle.repairs.specs.Answer.{offered_of, written_of};
 
 use crate::judge::judge_set;
-use excesses::{NO_LONG, NO_SHORT, stored_fits16, stored_fits32};
-use offer_windows::{write_offers16, write_offers32};
-use repairs::Offered;
-use windows::{STORE16, STORE32};
+use offer_windows::write_offers;
+use repairs::NotOffered;
+use windows::Weight;
 
-// An offer of our own for a stored set of the 16-bit store, in the first slots of `out`; for any numbers and lists.
+// An offer of our own for a stored set, in the first slots of `out`; for any numbers and lists.
+pub fn make_offer<W: Weight>(
+    lines: u32,
+    window_size: u32,
+    precision: u32,
+    weights: &[W],
+    starts: &[u32],
+    sizes: &[u32],
+    excesses: &[i64],
+    out: &mut [W],
+) -> Result<(), NotOffered>
+    ensures answer { result ≡ offered_of W.STORE (stored_of (set_of (layout_of lines window_size starts.now sizes.now) (W.values weights.now)) precision excesses.now) (length out.old) }
+    ensures written { W.values out.new ≡ written_of W.STORE (stored_of (set_of (layout_of lines window_size starts.now sizes.now) (W.values weights.now)) precision excesses.now) (W.values out.old) }
+{
+    judge_set(
+        lines,
+        window_size,
+        precision,
+        weights,
+        starts,
+        sizes,
+        excesses,
+        out.len(),
+    )?;
+    write_offers(window_size, weights, sizes, excesses, out);
+    Ok(())
+}
+
+// The same for a set of the 16-bit store.
 pub fn make_offer16(
     lines: u32,
     window_size: u32,
@@ -20,11 +47,11 @@ pub fn make_offer16(
     sizes: &[u32],
     excesses: &[i64],
     out: &mut [i16],
-) -> Offered
+) -> Result<(), NotOffered>
     ensures answer { result ≡ offered_of store16 (stored_of (set_of (layout_of lines window_size starts.now sizes.now) weights.now) precision excesses.now) (length out.old) }
     ensures written { out.new ≡ written_of store16 (stored_of (set_of (layout_of lines window_size starts.now sizes.now) weights.now) precision excesses.now) out.old }
 {
-    let fits = stored_fits16(
+    make_offer(
         lines,
         window_size,
         precision,
@@ -32,26 +59,8 @@ pub fn make_offer16(
         starts,
         sizes,
         excesses,
-    );
-    let answer = judge_set(
-        STORE16,
-        fits,
-        lines,
-        window_size,
-        precision,
-        false,
-        weights,
-        &NO_LONG,
-        starts,
-        sizes,
-        excesses,
-        out.len(),
-    );
-    if answer.number() != 0 {
-        return answer;
-    }
-    write_offers16(window_size, weights, sizes, excesses, out);
-    answer
+        out,
+    )
 }
 
 // The same for a set of the 32-bit store.
@@ -64,11 +73,11 @@ pub fn make_offer32(
     sizes: &[u32],
     excesses: &[i64],
     out: &mut [i32],
-) -> Offered
+) -> Result<(), NotOffered>
     ensures answer { result ≡ offered_of store32 (stored_of (set_of (layout_of lines window_size starts.now sizes.now) weights.now) precision excesses.now) (length out.old) }
     ensures written { out.new ≡ written_of store32 (stored_of (set_of (layout_of lines window_size starts.now sizes.now) weights.now) precision excesses.now) out.old }
 {
-    let fits = stored_fits32(
+    make_offer(
         lines,
         window_size,
         precision,
@@ -76,24 +85,6 @@ pub fn make_offer32(
         starts,
         sizes,
         excesses,
-    );
-    let answer = judge_set(
-        STORE32,
-        fits,
-        lines,
-        window_size,
-        precision,
-        true,
-        &NO_SHORT,
-        weights,
-        starts,
-        sizes,
-        excesses,
-        out.len(),
-    );
-    if answer.number() != 0 {
-        return answer;
-    }
-    write_offers32(window_size, weights, sizes, excesses, out);
-    answer
+        out,
+    )
 }

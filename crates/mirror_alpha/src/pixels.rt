@@ -3,6 +3,8 @@ ghost use Rattle.std.specs.Prelude.{◌≡◌};
 ghost use Rattle.pixel_lists.specs.Lists.{applied_to, number_of};
 ghost use Rattle.alpha.specs.Lists.{multiplied_list, divided_list};
 
+use refusal::Numbered;
+
 // Every pixel of src, its colours multiplied by its alpha, in dst.
 #[unsafe(no_mangle)]
 pub extern "C" fn mirror_multiply_u8x4(src: &[u8], dst: &mut [u8]) -> u32

@@ -6,7 +6,7 @@ ghost use Rattle.mirror_book.specs.Told.{reported};
 
 use book_numbers::Report;
 use book_text::write_report;
-use sheet::Sheet;
+use refusal::Numbered;
 
 // 0 or No. 11, of any numbers. The byte is no line.
 #[unsafe(no_mangle)]
@@ -36,13 +36,13 @@ pub extern "C" fn mirror_book_lines(
         byte: 0,
     };
     match write_report(r, out) {
-        Sheet::Written(length) => {
+        Ok(length) => {
             *written = length;
             0
         }
-        Sheet::Refused(refusal) => {
+        Err(refusal) => {
             *written = 0;
-            refusal::number(refusal)
+            refusal.number()
         }
     }
 }

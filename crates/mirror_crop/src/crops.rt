@@ -6,8 +6,7 @@ ghost use Rattle.crop_box.specs.Crop.{crop_of, number_of};
 use crate::answers::fitted_box;
 use codes::{centring_named, filter_named};
 use crop_box::CropBox;
-use filters::Picked;
-use refusal::Refusal;
+use refusal::{Numbered, Refusal};
 
 // The filter's weight at x, in `weight`; a retired filter has none.
 #[unsafe(no_mangle)]
@@ -20,8 +19,8 @@ pub extern "C" fn mirror_filter(filter: u32, x: f64, weight: &mut f64) -> u32
         return 100;
     }
     let picked = filters::pick(filter_named(filter));
-    let Picked::Is(f) = picked else {
-        return refusal::number(Refusal::RetiredFilter);
+    let Some(f) = picked else {
+        return Refusal::RetiredFilter.number();
     };
     *weight = filters::value(f, x);
     0

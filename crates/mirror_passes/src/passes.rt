@@ -6,6 +6,7 @@ ghost use Rattle.vertical.specs.PassedF32.{number_of as numberOfF32, infinite_in
 ghost use Rattle.vertical.specs.F32.{passed_f32, written_f32};
 ghost use Rattle.vertical.specs.U16.{passed_u16, written_u16};
 
+use refusal::Numbered;
 use vertical::Frame;
 
 // The value of every window at every column of the range, u16 samples: 0, No. 1 or No. 10.
@@ -79,6 +80,6 @@ pub extern "C" fn mirror_vertical_f32(
         window,
         out,
     );
-    *infinite = answer.infinite();
+    *infinite = answer.unwrap_or(0);
     answer.number()
 }

@@ -4,6 +4,7 @@ ghost use Rattle.windows.specs.Set.{layout_of, set_of, stored_of};
 ghost use Rattle.vertical.specs.Passed.{number_of};
 ghost use Rattle.vertical_u8.specs.U8.{passed_u8, written_u8};
 
+use refusal::Numbered;
 use vertical::Frame;
 
 // The value of every window at every column of the range, u8 samples with the weights of the 16-bit store: 0, No. 1, 10 or 9.

@@ -4,7 +4,7 @@ ghost use Rattle.mirror_readers.specs.Told.{no_head, said_by, head_of};
 
 use crate::Head;
 use codes::filter_code;
-use reader::Reading;
+use reader::Unread;
 use sheet_scan::{Sizes, StoreLines};
 
 // Of a sheet that is loaded.
@@ -37,12 +37,11 @@ fn nothing() -> Head
 }
 
 // Beside an answer.
-pub(crate) fn head_of(answer: Reading) -> Head
+pub(crate) fn head_of(answer: Result<(Sizes, StoreLines), Unread>) -> Head
     ensures answer { result ≡ head_of answer }
 {
     match answer {
-        Reading::Loaded(sizes, store) => said(sizes, store),
-        Reading::TooFew => nothing(),
-        Reading::NotASheet(_) => nothing(),
+        Ok((sizes, store)) => said(sizes, store),
+        Err(_) => nothing(),
     }
 }

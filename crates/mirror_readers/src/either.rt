@@ -4,6 +4,7 @@ ghost use Rattle.reader.specs.Reading.{lists};
 ghost use Rattle.mirror_readers.specs.Told.{headed, Tells};
 
 use crate::answers::head_of;
+use refusal::Numbered;
 
 // The set of the text in the four lists, and what the sheet's head says in six places: 0, No. 7 or 13.
 #[unsafe(no_mangle)]
@@ -31,6 +32,6 @@ pub extern "C" fn mirror_read_sheet(
     *window = head.window_size;
     *store = head.store;
     *precision = head.precision;
-    *byte = answer.byte();
+    *byte = reader::byte(answer);
     answer.number()
 }

@@ -4,6 +4,7 @@ ghost use Rattle.reader.specs.Reading.{lists};
 ghost use Rattle.mirror_readers.specs.Told.{headed, Tells};
 
 use crate::answers::head_of;
+use refusal::Numbered;
 
 // The same; a sheet of the 32-bit store is No. 13 at the digit after `store=`.
 #[unsafe(no_mangle)]
@@ -31,6 +32,6 @@ pub extern "C" fn mirror_read_sheet16(
     *window = head.window_size;
     *store = head.store;
     *precision = head.precision;
-    *byte = answer.byte();
+    *byte = reader::byte(answer);
     answer.number()
 }

@@ -5,6 +5,8 @@ ghost use Rattle.windows.specs.Store.{store32};
 ghost use Rattle.repairs.specs.Offer.{offer_of};
 ghost use Rattle.repairs.specs.Answer.{accepted_of, weights_of, excesses_of, number_of};
 
+use refusal::Numbered;
+
 // 0, and the offered weights are in the slots in use and every excess is 0; or No. 1, 10 or 14, and nothing is changed.
 #[unsafe(no_mangle)]
 pub extern "C" fn mirror_accept32(

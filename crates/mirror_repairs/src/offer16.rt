@@ -4,6 +4,8 @@ ghost use Rattle.windows.specs.Set.{layout_of, set_of, stored_of};
 ghost use Rattle.windows.specs.Store.{store16};
 ghost use Rattle.repairs.specs.Answer.{offered_of, written_of, offered_number, offered_line};
 
+use refusal::Numbered;
+
 // 0, and the offer is in the first slots of `out`; or No. 1, 7, 10 or 14, and nothing is changed. `line` is the first display line without an offer, 0 where the
 // answer is not 14.
 #[unsafe(no_mangle)]
@@ -25,6 +27,6 @@ pub extern "C" fn mirror_offer16(
     let answer = make_offers::make_offer16(
         lines, window, precision, weights, starts, sizes, excesses, out,
     );
-    *line = answer.line();
+    *line = repairs::line(answer);
     answer.number()
 }

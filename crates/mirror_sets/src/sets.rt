@@ -7,6 +7,7 @@ ghost use Rattle.codes.specs.Codes.{bad_code, no_codes, request_of};
 use codes::{axis_named, filter_named, names_nothing};
 use crop_box::CropBox;
 use plans::Request;
+use refusal::Numbered;
 
 // The weight set of a request in the three lists, its window size in `window`; for No. 8 the first blank display line in `line`.
 #[unsafe(no_mangle)]
@@ -54,7 +55,7 @@ pub extern "C" fn mirror_weights(
         adapts: adapts == 1,
     };
     let answer = coefficients::build(request, weights, starts, sizes);
-    *window = answer.window_size();
-    *line = answer.line();
+    *window = coefficients::window_size(answer);
+    *line = coefficients::line(answer);
     answer.number()
 }

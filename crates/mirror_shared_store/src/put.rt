@@ -9,6 +9,7 @@ ghost use Rattle.shares.specs.Machine.{next, by, puts, put_answer, scratch_after
 use codes::{axis_named, filter_named, names_nothing};
 use crop_box::CropBox;
 use plans::Request;
+use refusal::Numbered;
 
 // The set of a request for the 32-bit store, its window size in `window`; for No. 8 the first blank display line in `line`. Refused, the former set stays.
 #[unsafe(no_mangle)]
@@ -69,7 +70,7 @@ pub extern "C" fn mirror_store_put(
     let answer = shared_store::put(
         numbers, slots, starts, sizes, excesses, client, request, doubles, firsts, counts,
     );
-    *window = answer.window_size();
-    *line = answer.line();
+    *window = coefficients::window_size(answer);
+    *line = coefficients::line(answer);
     answer.number()
 }

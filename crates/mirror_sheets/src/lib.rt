@@ -2,6 +2,5 @@
 // the text's length beside it and `codes` for what a number names. `./mirror archive` joins the crates `mirror_*`.
 #![tactic(auto)]
 
-mod answers;
 mod narrow;
 mod wide;

@@ -5,8 +5,8 @@ ghost use Rattle.windows.specs.Store.{store16};
 ghost use Rattle.sheet.specs.Answer.{answer_of, written_of, number_of, length_of};
 ghost use Rattle.codes.specs.Codes.{bad_code, no_filter, filter_of};
 
-use crate::answers::sheet_length;
 use codes::filter_named;
+use refusal::Numbered;
 
 // 0, No. 1, 10 or 11; 100 for a filter that is none.
 #[unsafe(no_mangle)]
@@ -34,6 +34,6 @@ pub extern "C" fn mirror_sheet16(
     let answer = write_sheets::write_sheet16(
         kind, lines, window, precision, weights, starts, sizes, excesses, text,
     );
-    *written = sheet_length(answer);
+    *written = answer.unwrap_or(0);
     answer.number()
 }

@@ -4,6 +4,7 @@ ghost use Rattle.windows.specs.Set.{layout_of, set_of, stored_of};
 ghost use Rattle.vertical.specs.Passed.{number_of};
 ghost use Rattle.sideways.specs.Sideways.{passed_sideways, written_sideways};
 
+use refusal::Numbered;
 use sideways_u16::PixelFrame;
 
 // The value of every window at every row of the range and every component: 0, No. 1 or 10.

@@ -4,6 +4,8 @@ ghost use Rattle.vertical.specs.Passed.{number_of};
 ghost use Rattle.shares.specs.Store.{store_of, view_of};
 ghost use Rattle.shares.specs.Machine.{pass_answer, pass_output};
 
+use refusal::Numbered;
+
 // The value of every window of the client's set at every column of the range: 0, No. 1 or No. 10.
 #[unsafe(no_mangle)]
 pub extern "C" fn mirror_store_u16(

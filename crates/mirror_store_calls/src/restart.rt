@@ -4,6 +4,8 @@ ghost use Rattle.shares.specs.Store.{store_of};
 ghost use Rattle.shares.specs.Restarted.{number_of};
 ghost use Rattle.shares.specs.Machine.{next, restarts, restarted_of};
 
+use refusal::Numbered;
+
 // The shares of client 0 and client 1, and no set: 0, No. 10 or No. 15.
 #[unsafe(no_mangle)]
 pub extern "C" fn mirror_store_restart(

@@ -2,5 +2,4 @@
 // number in place of the answer's case and the precision beside it. `./mirror archive` joins the crates `mirror_*`.
 #![tactic(auto)]
 
-mod answers;
 mod stores;

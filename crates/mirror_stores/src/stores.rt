@@ -4,7 +4,7 @@ ghost use Rattle.windows.specs.Set.{layout_of, set_of};
 ghost use Rattle.windows.specs.Store.{store16, store32};
 ghost use Rattle.normalizer.specs.Answer.{normalized_of, written_of, excesses_of, number_of, precision_in};
 
-use crate::answers::normalized_precision;
+use refusal::Numbered;
 
 // In the 16-bit store: 0, No. 1, 7, 9 or 10.
 #[unsafe(no_mangle)]
@@ -24,7 +24,7 @@ pub extern "C" fn mirror_normalize16(
     ensures written3 { precision.new ≡ precision_in (normalized_of store16 (set_of (layout_of lines window starts.now sizes.now) weights.now) (length out.old) (length excesses.old)) }
 {
     let answer = normalizer::normalize16(lines, window, weights, starts, sizes, out, excesses);
-    *precision = normalized_precision(answer);
+    *precision = answer.unwrap_or(0);
     answer.number()
 }
 
@@ -46,6 +46,6 @@ pub extern "C" fn mirror_normalize32(
     ensures written3 { precision.new ≡ precision_in (normalized_of store32 (set_of (layout_of lines window starts.now sizes.now) weights.now) (length out.old) (length excesses.old)) }
 {
     let answer = normalizer::normalize32(lines, window, weights, starts, sizes, out, excesses);
-    *precision = normalized_precision(answer);
+    *precision = answer.unwrap_or(0);
     answer.number()
 }

@@ -3,6 +3,7 @@ ghost use Rattle.std.specs.Prelude.{◌≡◌, length};
 ghost use Rattle.windows.specs.Set.{layout_of, set_of, stored_of};
 ghost use Rattle.story.specs.Answer.{answer_of, written_of, number_of, length_of};
 
+use refusal::Numbered;
 use windows::DisplayLine;
 
 // 0, No. 1, 10 or 11.
@@ -40,6 +41,6 @@ pub extern "C" fn mirror_story(
         column,
         text,
     );
-    *written = answer.length();
+    *written = answer.unwrap_or(0);
     answer.number()
 }

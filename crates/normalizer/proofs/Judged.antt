@@ -1,5 +1,6 @@
 -- The judge's answer, test by test, what an answer of `Done p` says of the set, and the two lists afterwards. Cited by `judge` and by both normalisers, over any store.
 -- Assumes nothing.
+use Rattle.std.specs.Prelude.{Result, Ok, Err}
 use mathlib.Core.Path.{◌≡◌, sym, ap, ◌∙◌}
 use mathlib.Core.Bool.{true, false}
 use mathlib.Core.List.{List, ◌++◌}
@@ -30,8 +31,6 @@ use Rattle.weight_precision.specs.Precision.{precision, reaches, largest}
 use Rattle.weight_precision.specs.Weights.{not_finite_value, leaves, unstorable}
 use Rattle.weight_slots.specs.Slots.{slot_at}
 use Rattle.normalizer.specs.Answer.{too_few_slots, bad_weights, normalized_of, excess_at, written_by, written_of, excesses_by, excesses_of, number_of, precision_in}
-use Rattle.normalizer.specs.declared.Normalized.{Normalized}
-use Rattle.normalizer.specs.declared.Normalized.TheVariants.{Done, Refused}
 
 pub precision_small : (store : Store) (weights : List Float) → 1 ≤ store.bits → store.bits ≤ 46 → precision store weights < 46
 unfolding precision
@@ -45,32 +44,32 @@ slots_fit lines starts window_size_value h w =
 
 module _ (store : Store) (s : Set Float) (room places : ℕ) where
   -- the refusals, in order
-  pub first_row : bad_sides_value s.layout.lines (windows s.layout) ≡ true → Refused BadSide ≡ normalized_of store s room places
+  pub first_row : bad_sides_value s.layout.lines (windows s.layout) ≡ true → Err BadSide ≡ normalized_of store s room places
   unfolding normalized_of
   first_row a = rw a
 
   module _ (a : bad_sides_value s.layout.lines (windows s.layout) ≡ false) where
-    pub second_row : too_few_slots store s room places ≡ true → Refused TooFewSlots ≡ normalized_of store s room places
+    pub second_row : too_few_slots store s room places ≡ true → Err TooFewSlots ≡ normalized_of store s room places
     unfolding normalized_of
     second_row b = rw (a, b)
 
     module _ (b : too_few_slots store s room places ≡ false) where
-      pub third_row : bad_set s.layout (length s.weights) ≡ true → Refused DoesNotFit ≡ normalized_of store s room places
+      pub third_row : bad_set s.layout (length s.weights) ≡ true → Err DoesNotFit ≡ normalized_of store s room places
       unfolding normalized_of
       third_row c = rw (a, b, c)
 
       module _ (c : bad_set s.layout (length s.weights) ≡ false) where
         -- No. 9, in the judge's two steps
-        pub weight_row : any (length s.weights) (not_finite_value s.weights) ≡ true → Refused WeightOutside ≡ normalized_of store s room places
+        pub weight_row : any (length s.weights) (not_finite_value s.weights) ≡ true → Err WeightOutside ≡ normalized_of store s room places
         unfolding normalized_of
         weight_row d = rw (a, b, c, d)
 
         module _ (d : any (length s.weights) (not_finite_value s.weights) ≡ false) (p : ℕ) (e : p ≡ precision store s.weights) where
-          pub precision_row : unstorable store p s.layout.window_size_value s.weights s.layout.sizes ≡ true → Refused WeightOutside ≡ normalized_of store s room places
+          pub precision_row : unstorable store p s.layout.window_size_value s.weights s.layout.sizes ≡ true → Err WeightOutside ≡ normalized_of store s room places
           unfolding normalized_of
           precision_row g = rw (a, b, c, d, ← e, g)
 
-          pub no_row : unstorable store p s.layout.window_size_value s.weights s.layout.sizes ≡ false → Done p ≡ normalized_of store s room places
+          pub no_row : unstorable store p s.layout.window_size_value s.weights s.layout.sizes ≡ false → Ok p ≡ normalized_of store s room places
           unfolding normalized_of
           no_row g = rw (a, b, c, d, ← e, g)
 
@@ -85,10 +84,10 @@ module _ (store : Store) (s : Set Float) (room places : ℕ) where
     pub enough_places : windows s.layout ≤ places
     pub inside : any (length s.weights) (leaves store p s.layout.window_size_value s.weights s.layout.sizes) ≡ false
 
-  refused : (r : Refusal) (p : ℕ) → 0 < number_of (Refused r) → Refused r ≡ Done p → ⊥
+  refused : (r : Refusal) (p : ℕ) → 0 < number_of (Err r) → Err r ≡ Ok p → ⊥
   refused r p l e = let z = ap number_of e in omega arith
 
-  pub ready : (p : ℕ) → normalized_of store s room places ≡ Done p → Ready p
+  pub ready : (p : ℕ) → normalized_of store s room places ≡ Ok p → Ready p
   unfolding normalized_of
   ready p h =
       let a = ladder (bad_sides_value s.layout.lines (windows s.layout)) (refused BadSide p (omega arith)) h in
@@ -112,27 +111,27 @@ module _ (store : Store) (s : Set Float) (room places : ℕ) where
       }
 
 -- the slots afterwards, by the answer
-pub refused_written : (store : Store) (s : Set Float) (refusal : Refusal) (places : ℕ) (old : List ℤ) → normalized_of store s (length old) places ≡ Refused refusal → old ≡ written_of store s places old
+pub refused_written : (store : Store) (s : Set Float) (refusal : Refusal) (places : ℕ) (old : List ℤ) → normalized_of store s (length old) places ≡ Err refusal → old ≡ written_of store s places old
 unfolding written_of written_by
-refused_written store s refusal places old h = ap (λ (answer : Normalized). written_by store s answer old) (sym h)
+refused_written store s refusal places old h = ap (λ (answer : Result ℕ Refusal). written_by store s answer old) (sym h)
 
-pub done_written : (store : Store) (s : Set Float) (p places : ℕ) (old after : List ℤ) → normalized_of store s (length old) places ≡ Done p → after ≡ front (length s.weights) (slot_at store p s.layout.window_size_value s.weights s.layout.sizes) old → after ≡ written_of store s places old
+pub done_written : (store : Store) (s : Set Float) (p places : ℕ) (old after : List ℤ) → normalized_of store s (length old) places ≡ Ok p → after ≡ front (length s.weights) (slot_at store p s.layout.window_size_value s.weights s.layout.sizes) old → after ≡ written_of store s places old
 unfolding written_of written_by
 done_written store s p places old after h e =
     e ∙ ap (λ (n : ℕ). front n (slot_at store p s.layout.window_size_value s.weights s.layout.sizes) old) (ready store s (length old) places p h).fits.full
-    ∙ ap (λ (answer : Normalized). written_by store s answer old) (sym h)
+    ∙ ap (λ (answer : Result ℕ Refusal). written_by store s answer old) (sym h)
 
 -- the excesses afterwards
-pub refused_excesses : (store : Store) (s : Set Float) (refusal : Refusal) (room : ℕ) (old : List ℤ) → normalized_of store s room (length old) ≡ Refused refusal → old ≡ excesses_of store s room old
+pub refused_excesses : (store : Store) (s : Set Float) (refusal : Refusal) (room : ℕ) (old : List ℤ) → normalized_of store s room (length old) ≡ Err refusal → old ≡ excesses_of store s room old
 unfolding excesses_of excesses_by
-refused_excesses store s refusal room old h = ap (λ (answer : Normalized). excesses_by store s answer old) (sym h)
+refused_excesses store s refusal room old h = ap (λ (answer : Result ℕ Refusal). excesses_by store s answer old) (sym h)
 
 front_ext : (n : ℕ) (f g : ℕ → ℤ) (old : List ℤ) → ((i : ℕ) → i < n → f i ≡ g i) → front n f old ≡ front n g old
 unfolding front
 front_ext n f g old h = ap (λ (l : List ℤ). l ++ drop n old) (tab_ext 0 n f g (λ i l. rw zero-add (h i l)))
 
 -- a set that was judged, whose slots were written over what the list held
-module _ (store : Store) (s : Set Float) (p : ℕ) (held old : List ℤ) (h : normalized_of store s (length held) (length old) ≡ Done p)
+module _ (store : Store) (s : Set Float) (p : ℕ) (held old : List ℤ) (h : normalized_of store s (length held) (length old) ≡ Ok p)
     (slots : List ℤ) (e : slots ≡ front (length s.weights) (slot_at store p s.layout.window_size_value s.weights s.layout.sizes) held) where
   set : Ready store s (length held) (length old) p
   set = ready store s (length held) (length old) p h
@@ -160,4 +159,4 @@ module _ (store : Store) (s : Set Float) (p : ℕ) (held old : List ℤ) (h : no
   done_excesses after a =
       a ∙ ap (λ (n : ℕ). front n (excess_in p s.layout.window_size_value slots s.layout.sizes) old) (sym set.fits.pairs)
       ∙ front_ext (windows s.layout) (excess_in p s.layout.window_size_value slots s.layout.sizes) (excess_at store p s) old window_excess
-      ∙ ap (λ (answer : Normalized). excesses_by store s answer old) (sym h)
+      ∙ ap (λ (answer : Result ℕ Refusal). excesses_by store s answer old) (sym h)

@@ -1,5 +1,6 @@
 -- What a normaliser leaves where it answers 0 passes the judge of a stored set. The two lists' beginnings are what was written; layout and counts are the judged ones, the
 -- precision is one of the store's, and each excess is worked out of the slots beside it. Over any store. Cited by the promises. Assumes nothing.
+use Rattle.std.specs.Prelude.{Result, Ok}
 use mathlib.Core.Path.{◌≡◌, refl, sym, ap, ◌∙◌, subst}
 use mathlib.Core.Bool.{Bool, false, ◌||◌}
 use mathlib.Core.List.{List}
@@ -25,8 +26,7 @@ use Rattle.weight_precision.specs.Precision.{precision, reaches, largest}
 use Rattle.weight_slots.specs.Slots.{slot_at}
 use Rattle.normalizer.specs.Answer.{excess_at, normalized_of, written_by, written_of, excesses_by, excesses_of, precision_in}
 use Rattle.normalizer.specs.Left.{left_set}
-use Rattle.normalizer.specs.declared.Normalized.{Normalized}
-use Rattle.normalizer.specs.declared.Normalized.TheVariants.{Done}
+use Rattle.refusal.specs.declared.Refusal.{Refusal}
 use Rattle.normalizer.proofs.Judged.{Ready, ready}
 
 take_front : (n : ℕ) (f : ℕ → ℤ) (old : List ℤ) → take n (front n f old) ≡ tab 0 n f
@@ -43,7 +43,7 @@ at f n k l = get_d_tab 0 n f k (pos 0) l ∙ ap f (zero-add k)
 none_due : (a b c d : Bool) → a ≡ false → b ≡ false → c ≡ false → d ≡ false → a || ((b || c) || d) ≡ false
 none_due a b c d h i j k = rw (h, i, j, k) refl
 
-module _ (store : Store) (s : Set Float) (out excesses : List ℤ) (p : ℕ) (h : normalized_of store s (length out) (length excesses) ≡ Done p) where
+module _ (store : Store) (s : Set Float) (out excesses : List ℤ) (p : ℕ) (h : normalized_of store s (length out) (length excesses) ≡ Ok p) where
   set : Ready store s (length out) (length excesses) p
   set = ready store s (length out) (length excesses) p h
 
@@ -79,7 +79,7 @@ module _ (store : Store) (s : Set Float) (out excesses : List ℤ) (p : ℕ) (h 
   unfolding written_of written_by excesses_of excesses_by
   is_plain =
       let n = windows s.layout in
-      ap (λ (a : Normalized). stored_of (set_of s.layout (take (n * wide) (written_by store s a out))) (precision_in a) (take n (excesses_by store s a excesses))) h
+      ap (λ (a : Result ℕ Refusal). stored_of (set_of s.layout (take (n * wide) (written_by store s a out))) (precision_in a) (take n (excesses_by store s a excesses))) h
       ∙ ap (λ (l : List ℤ). stored_of (set_of s.layout l) p (take n (front n (excess_at store p s) excesses))) (take_front (n * wide) slot out)
       ∙ ap (λ (l : List ℤ). stored_of (set_of s.layout (tab 0 (n * wide) slot)) p l) (take_front n (excess_at store p s) excesses)
 

@@ -1,5 +1,6 @@
 -- For the customer: each of No. 1, 7, 10 and 9 is given by a normaliser exactly when its test holds and none that is judged before it does, and No. 0 exactly when
 -- none holds; so for every input one row applies and no other. Over any store. Cited by docs/CONTRACTS.md. Assumes nothing.
+use Rattle.std.specs.Prelude.{Ok, Err}
 use mathlib.Core.Path.{◌≡◌, refl}
 use mathlib.Core.Bool.{Bool, true, false, cond}
 use mathlib.Core.List.{List, [], ◌∷◌}
@@ -15,9 +16,8 @@ use Rattle.windows.specs.Set.{Set, windows}
 use Rattle.windows.specs.Fit.{bad_set}
 use Rattle.weight_precision.specs.Precision.{precision}
 use Rattle.normalizer.specs.Answer.{too_few_slots, bad_weights, normalized_of, number_of}
-use Rattle.normalizer.specs.declared.Normalized.TheVariants.{Done, Refused}
 
-numbered : (a b c d : Bool) (p : ℕ) → number_of (cond a (Refused BadSide) (cond b (Refused TooFewSlots) (cond c (Refused DoesNotFit) (cond d (Refused WeightOutside) (Done p))))) ≡ cond a 1 (cond b 7 (cond c 10 (cond d 9 0)))
+numbered : (a b c d : Bool) (p : ℕ) → number_of (cond a (Err BadSide) (cond b (Err TooFewSlots) (cond c (Err DoesNotFit) (cond d (Err WeightOutside) (Ok p))))) ≡ cond a 1 (cond b 7 (cond c 10 (cond d 9 0)))
 numbered true b c d p = refl
 numbered false true c d p = refl
 numbered false false true d p = refl

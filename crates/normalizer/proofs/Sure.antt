@@ -1,4 +1,4 @@
--- The contracts of both normalisers decide their answers and every slot and excess that they write, that of `number` its answer. Assumes nothing.
+-- The contracts of both normalisers decide their answers and every slot and excess that they write. Assumes nothing.
 use mathlib.Core.Path.{◌≡◌, ◌∙◌, sym, ap}
 use Prim.Native.Nat.{ℕ}
 use Rattle.lists.proofs.Sure.{Decides, DecidesResult}
@@ -12,8 +12,6 @@ use Rattle.normalizer.proofs.normalize16.Kinds as normalize16
 use Rattle.normalizer.proofs.normalize16.Reads as normalize16-reads
 use Rattle.normalizer.proofs.normalize32.Kinds as normalize32
 use Rattle.normalizer.proofs.normalize32.Reads as normalize32-reads
-use Rattle.normalizer.proofs.Normalized.number.Kinds as number
-use Rattle.normalizer.proofs.Normalized.number.Reads as number-reads
 
 abbrev with16 : ℕ → Normalizer16
 with16 p = record { precision = p }
@@ -30,6 +28,3 @@ normalize16_decides κs a x y s t p q = (p.0 ∙ sym q.0, (p.1.0 ∙ sym q.1.0, 
 
 pub normalize32_decides : Decides normalize32.ps normalize32.r normalize32-reads.Post (λ κs s t. (s.1.1.1.1.1.0.now ≡ t.1.1.1.1.1.0.now) × (s.1.1.1.1.1.1.0.now ≡ t.1.1.1.1.1.1.0.now))
 normalize32_decides κs a x y s t p q = (p.0 ∙ sym q.0, (p.1.0 ∙ sym q.1.0, p.1.1 ∙ sym q.1.1))
-
-pub number_decides : DecidesResult number.ps number.r number-reads.Post
-number_decides κs a x y s t p q = p ∙ sym q

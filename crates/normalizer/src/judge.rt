@@ -3,7 +3,6 @@ ghost use Rattle.std.specs.Prelude.{◌≡◌, ◌≤◌};
 ghost use Rattle.windows.specs.Set.{layout_of, set_of};
 ghost use Rattle.normalizer.specs.Answer.{normalized_of};
 
-use crate::Normalized;
 use refusal::Refusal;
 use weight_precision::{precision, some_not_finite, unstorable};
 use windows::{Store, set_fits, sides_fit};
@@ -18,27 +17,27 @@ pub(crate) fn judge(
     sizes: &[u32],
     room: usize,
     places: usize,
-) -> Normalized
+) -> Result<u32, Refusal>
     requires fact_1 { 1 ≤ store.bits }
     requires fact_2 { store.bits ≤ 46 }
     requires fact_3 { store.limit ≤ 51 }
     ensures { result ≡ normalized_of store (set_of (layout_of lines window_size starts.now sizes.now) weights.now) room places }
 {
     if !sides_fit(lines, starts.len()) {
-        return Normalized::Refused(Refusal::BadSide);
+        return Err(Refusal::BadSide);
     }
     if (room < starts.len() * (window_size as usize)) | (places < starts.len()) {
-        return Normalized::Refused(Refusal::TooFewSlots);
+        return Err(Refusal::TooFewSlots);
     }
     if !set_fits(lines, window_size, weights.len(), starts, sizes) {
-        return Normalized::Refused(Refusal::DoesNotFit);
+        return Err(Refusal::DoesNotFit);
     }
     if some_not_finite(weights) {
-        return Normalized::Refused(Refusal::WeightOutside);
+        return Err(Refusal::WeightOutside);
     }
     let p = precision(weights, store);
     if unstorable(store, p, window_size, weights, sizes) {
-        return Normalized::Refused(Refusal::WeightOutside);
+        return Err(Refusal::WeightOutside);
     }
-    Normalized::Done(p)
+    Ok(p)
 }

@@ -2,7 +2,6 @@
 // in use becomes weight x 2^precision rounded half away from zero, the other slots 0; each window gets its `excess`. A set that does not fit is refused, and nothing is written.
 #![tactic(auto)]
 
-mod answer;
 mod judge;
 
 ghost use Rattle.std.specs.Prelude.{◌≡◌, length};
@@ -11,19 +10,13 @@ ghost use Rattle.windows.specs.Store.{store16, store32};
 ghost use Rattle.weight_precision.specs.Precision.{precision};
 ghost use Rattle.normalizer.specs.Answer.{normalized_of, written_of, excesses_of};
 
-use excesses::{NO_LONG, NO_SHORT, write_excesses};
+use excesses::write_excesses;
 use refusal::Refusal;
-use weight_slots::{write16, write32};
-use windows::Store;
+use weight_slots::write;
+use windows::{Store, Weight};
 
-#[derive(Clone, Copy)]
-pub enum Normalized {
-    // the precision
-    Done(u32),
-    Refused(Refusal),
-}
-
-// the 16-bit store: i16 weights, sums in 32 bits. Document 01 asks for the two types and their constants; `new` finds a precision without storing a set
+// the 16-bit store: i16 weights, sums in 32 bits. A rule of the project asks for the two types and their constants, so they stay two (`new_decides`, proofs/Sure.antt): one type over a
+// `Weight` would need a field of no value beside the precision. `new` finds a precision without storing a set
 #[derive(Drop)]
 pub struct Normalizer16 {
     pub precision: u32,
@@ -75,7 +68,36 @@ impl Normalizer32 {
     }
 }
 
-// The weights of a set in the 16-bit store with their excesses, and their precision, or the number that refuses them; for any numbers and lists.
+// The weights of a set in a store with their excesses, and their precision, or the number that refuses them; for any numbers and lists.
+pub fn normalize<W: Weight>(
+    lines: u32,
+    window_size: u32,
+    weights: &[f64],
+    starts: &[u32],
+    sizes: &[u32],
+    out: &mut [W],
+    excesses: &mut [i64],
+) -> Result<u32, Refusal>
+    ensures answer { result ≡ normalized_of W.STORE (set_of (layout_of lines window_size starts.now sizes.now) weights.now) (length out.old) (length excesses.old) }
+    ensures written { W.values out.new ≡ written_of W.STORE (set_of (layout_of lines window_size starts.now sizes.now) weights.now) (length excesses.old) (W.values out.old) }
+    ensures written2 { excesses.new ≡ excesses_of W.STORE (set_of (layout_of lines window_size starts.now sizes.now) weights.now) (length out.old) excesses.old }
+{
+    let p = judge::judge(
+        W::STORE,
+        lines,
+        window_size,
+        weights,
+        starts,
+        sizes,
+        out.len(),
+        excesses.len(),
+    )?;
+    write(p, window_size, weights, sizes, out);
+    write_excesses(p, window_size, out, sizes, excesses);
+    Ok(p)
+}
+
+// The same in the 16-bit store.
 pub fn normalize16(
     lines: u32,
     window_size: u32,
@@ -84,27 +106,12 @@ pub fn normalize16(
     sizes: &[u32],
     out: &mut [i16],
     excesses: &mut [i64],
-) -> Normalized
+) -> Result<u32, Refusal>
     ensures answer { result ≡ normalized_of store16 (set_of (layout_of lines window_size starts.now sizes.now) weights.now) (length out.old) (length excesses.old) }
     ensures written { out.new ≡ written_of store16 (set_of (layout_of lines window_size starts.now sizes.now) weights.now) (length excesses.old) out.old }
     ensures written2 { excesses.new ≡ excesses_of store16 (set_of (layout_of lines window_size starts.now sizes.now) weights.now) (length out.old) excesses.old }
 {
-    let answer = judge::judge(
-        Normalizer16::STORE,
-        lines,
-        window_size,
-        weights,
-        starts,
-        sizes,
-        out.len(),
-        excesses.len(),
-    );
-    let Normalized::Done(p) = answer else {
-        return answer;
-    };
-    write16(p, window_size, weights, sizes, out);
-    write_excesses(p, window_size, false, out, &NO_LONG, sizes, excesses);
-    answer
+    normalize(lines, window_size, weights, starts, sizes, out, excesses)
 }
 
 // The same in the 32-bit store.
@@ -116,25 +123,10 @@ pub fn normalize32(
     sizes: &[u32],
     out: &mut [i32],
     excesses: &mut [i64],
-) -> Normalized
+) -> Result<u32, Refusal>
     ensures answer { result ≡ normalized_of store32 (set_of (layout_of lines window_size starts.now sizes.now) weights.now) (length out.old) (length excesses.old) }
     ensures written { out.new ≡ written_of store32 (set_of (layout_of lines window_size starts.now sizes.now) weights.now) (length excesses.old) out.old }
     ensures written2 { excesses.new ≡ excesses_of store32 (set_of (layout_of lines window_size starts.now sizes.now) weights.now) (length out.old) excesses.old }
 {
-    let answer = judge::judge(
-        Normalizer32::STORE,
-        lines,
-        window_size,
-        weights,
-        starts,
-        sizes,
-        out.len(),
-        excesses.len(),
-    );
-    let Normalized::Done(p) = answer else {
-        return answer;
-    };
-    write32(p, window_size, weights, sizes, out);
-    write_excesses(p, window_size, true, &NO_SHORT, out, sizes, excesses);
-    answer
+    normalize(lines, window_size, weights, starts, sizes, out, excesses)
 }

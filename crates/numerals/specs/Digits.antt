@@ -1,9 +1,9 @@
 -- Digits in a text and the whole numbers that they write, in any base up to 16. Cited by the readers of
 -- numbers here and in the crates above. Definitions only. Assumes nothing.
-use Rattle.std.specs.Prelude.{List, Bool, cond, not, ◌||◌, ℕ, ◌+◌, ◌-◌, ◌*◌, eqb, ltb, leb, get_or}
+use Rattle.std.specs.Prelude.{Result, Ok, Err, List, Bool, cond, not, ◌||◌, ℕ, ◌+◌, ◌-◌, ◌*◌, eqb, ltb, leb, get_or}
 use Rattle.lists.specs.Tab.{any, turns}
-use Rattle.numerals.specs.declared.Number.{Number}
-use Rattle.numerals.specs.declared.Number.TheVariants.{Is, TooLarge, Malformed}
+use Rattle.numerals.specs.declared.NumberError.{NumberError}
+use Rattle.numerals.specs.declared.NumberError.TheVariants.{TooLarge, Malformed}
 
 -- the digit that a byte stands for: 0 to 9, then a to f for 10 to 15; 255 for a byte that is no digit
 unfoldable pub digit_of : ℕ → ℕ
@@ -35,8 +35,8 @@ unfoldable pub numeral : ℕ → List ℕ → ℕ → ℕ → ℕ → ℕ
 numeral base text a v n = turns (behind base text a) v n
 
 -- the number that n digits from the place a on write, at most `most`; n is 1 at least
-unfoldable pub number_of : ℕ → List ℕ → ℕ → ℕ → ℕ → Number
+unfoldable pub number_of : ℕ → List ℕ → ℕ → ℕ → ℕ → Result ℕ NumberError
 number_of base text a n most =
-    cond (eqb n 0 || not (digits base text a n)) Malformed
-    (cond (ltb most (numeral base text a 0 n)) TooLarge
-    (Is (numeral base text a 0 n)))
+    cond (eqb n 0 || not (digits base text a n)) (Err Malformed)
+    (cond (ltb most (numeral base text a 0 n)) (Err TooLarge)
+    (Ok (numeral base text a 0 n)))

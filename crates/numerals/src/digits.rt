@@ -1,9 +1,9 @@
 // Digits in a base of up to 16, and the whole numbers that they write.
-ghost use Rattle.std.specs.Prelude.{◌≡◌, cond, ◌+◌, ◌*◌, ◌<◌, ltb, get_or};
-ghost use Rattle.numerals.specs.declared.Number.TheVariants.{Is, TooLarge};
+ghost use Rattle.std.specs.Prelude.{Ok, Err, ◌≡◌, cond, ◌+◌, ◌*◌, ◌<◌, ltb, get_or};
+ghost use Rattle.numerals.specs.declared.NumberError.TheVariants.{TooLarge};
 ghost use Rattle.numerals.specs.Digits.{digit_of, figure, digits, numeral, number_of};
 
-use crate::Number;
+use crate::NumberError;
 
 // The byte k places past a, 0 where the text ends before it.
 pub(crate) fn byte_at(text: &[u8], a: usize, k: usize) -> u8
@@ -50,12 +50,10 @@ pub fn figure(base: u64, b: u8) -> u64
 pub fn all_digits(base: u64, text: &[u8], a: usize, n: usize) -> bool
     ensures answer { result ≡ digits base text.now a n }
 {
-    let mut k: usize = 0;
-    while k < n {
+    for k in 0..n {
         if base <= digit(byte_at(text, a, k)) as u64 {
             return false;
         }
-        k += 1;
     }
     true
 }
@@ -72,35 +70,39 @@ fn passes(v: u64, base: u64, d: u64, most: u64) -> bool
 }
 
 // The number of n digits, or that it is above `most`.
-fn bounded(base: u64, text: &[u8], a: usize, n: usize, most: u64) -> Number
+fn bounded(base: u64, text: &[u8], a: usize, n: usize, most: u64) -> Result<u64, NumberError>
     requires { 0 < base }
-    ensures answer { result ≡ cond (ltb most (numeral base text.now a 0 n)) TooLarge (Is (numeral base text.now a 0 n)) }
+    ensures answer { result ≡ cond (ltb most (numeral base text.now a 0 n)) (Err TooLarge) (Ok (numeral base text.now a 0 n)) }
 {
     let mut sum: u64 = 0;
-    let mut k: usize = 0;
-    while k < n {
+    for k in 0..n {
         let d = figure(base, byte_at(text, a, k));
         if passes(sum, base, d, most) {
-            return Number::TooLarge;
+            return Err(NumberError::TooLarge);
         }
         sum = sum * base + d;
-        k += 1;
     }
-    Number::Is(sum)
+    Ok(sum)
 }
 
 // The number that n bytes from the place a on write in the base, where it is at most `most`.
-pub fn read_number(base: u64, text: &[u8], a: usize, n: usize, most: u64) -> Number
+pub fn read_number(
+    base: u64,
+    text: &[u8],
+    a: usize,
+    n: usize,
+    most: u64,
+) -> Result<u64, NumberError>
     ensures answer { result ≡ number_of base text.now a n most }
 {
     if n == 0 {
-        return Number::Malformed;
+        return Err(NumberError::Malformed);
     }
     if !all_digits(base, text, a, n) {
-        return Number::Malformed;
+        return Err(NumberError::Malformed);
     }
     if base == 0 {
-        return Number::Malformed;
+        return Err(NumberError::Malformed);
     }
     bounded(base, text, a, n, most)
 }

@@ -6,10 +6,9 @@ mod digits;
 
 pub use digits::{all_digits, digit, figure, read_number};
 
-// A number read: its value, or that it is above the largest one wished, or that the bytes are no digits.
-#[derive(Drop)]
-pub enum Number {
-    Is(u64),
+// Why no number was read: it is above the largest one wished, or the bytes are no digits.
+#[derive(Clone, Copy, PartialEq, Eq)]
+pub enum NumberError {
     TooLarge,
     Malformed,
 }

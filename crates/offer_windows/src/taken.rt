@@ -7,9 +7,5 @@ ghost use Rattle.offer_windows.specs.Walks.{no_excess};
 pub fn clear(excesses: &mut [i64])
     ensures written { excesses.new ≡ tab 0 (length excesses.old) no_excess }
 {
-    let mut k: usize = 0;
-    while k < excesses.len() {
-        excesses[k] = 0;
-        k += 1;
-    }
+    excesses.fill(0);
 }

@@ -17,7 +17,7 @@ use Rattle.orders.proofs.CountLaws.{count_mono, count_ext, count_early}
 use Rattle.orders.proofs.SumOrders.{sum_moved}
 use Rattle.windows.specs.Set.{excess}
 use Rattle.windows.specs.Fit.{differ}
-use Rattle.excesses.proofs.RightLaws.{alike, not_differ}
+use Rattle.excesses.proofs.RightLaws.{not_differ, differ_other}
 use Rattle.offers.specs.Repair.{Repair, changed}
 use Rattle.offers.specs.Own.{way, movable, moves, moved, no_repair}
 use Rattle.offers.proofs.RepairLaws.{negsuc_parts, excess_parts, enough}
@@ -100,13 +100,6 @@ in_order limit e w j d h m =
     rw (m, lt-ltb (c j) (nat_abs e) k)
 
 -- ---- how many weights it changes
-
-differ_other : (x y : ℤ) → (x ≡ y → ⊥) → differ x y ≡ true
-differ_other x y h = go (differ x y) refl
-  where
-    go : (b : Bool) → differ x y ≡ b → b ≡ true
-    go true q = refl
-    go false q = absurd (h (alike x y q))
 
 moves_changed : (limit : ℕ) (e : ℤ) (w : ℕ → ℤ) (k : ℕ) → changed w (moved limit e w) k ≡ moves limit e w k
 moves_changed limit e w k = go e (moves limit e w k) refl

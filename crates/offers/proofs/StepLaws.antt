@@ -7,8 +7,8 @@ use native.Mathlib.Omega.{arith}
 use lib.Dec.{ltb}
 use lib.IntN.{ℤ, pos, negsuc, nat_abs, ◌+ℤ◌, ◌-ℤ◌}
 use lib.Signed.{mag, lt_z}
-use borrow.Author.Tests.{ltb-true, ltb-false, lt-ltb, le-ltb}
-use Rattle.lists.proofs.BoolLaws.{never}
+use mir.Val.{bool_byte}
+use borrow.Author.Tests.{ltb-true, lt-ltb, le-ltb}
 use Rattle.integers.specs.Sums.{distance}
 use Rattle.orders.specs.Count.{count}
 use Rattle.orders.proofs.CountLaws.{count_on, count_le}
@@ -37,21 +37,6 @@ far_is (negsuc (suc n)) =
     let b : ltb 1 (suc (suc n)) ≡ true = lt-ltb 1 (suc (suc n)) (omega arith) in
     rw (a, b)
 
--- the step, by the two tests
-pub way_up : (e : ℤ) → lt_z e (pos 0) ≡ true → pos 1 ≡ way e
-way_up (pos n) h = let l : n < 0 = ltb-true n 0 h in absurd (omega arith)
-way_up (negsuc n) h = refl
-
-pub way_down : (e : ℤ) → lt_z (pos 0) e ≡ true → negsuc 0 ≡ way e
-way_down (pos zero) h = let l : 0 < 0 = ltb-true 0 0 h in absurd (omega arith)
-way_down (pos (suc n)) h = refl
-way_down (negsuc n) h = never (sym h)
-
-pub way_none : (e : ℤ) → lt_z e (pos 0) ≡ false → lt_z (pos 0) e ≡ false → pos 0 ≡ way e
-way_none (pos zero) h k = refl
-way_none (pos (suc n)) h k = let l : suc n ≤ 0 = ltb-false 0 (suc n) k in absurd (omega arith)
-way_none (negsuc n) h k = never h
-
 way_size : (e : ℤ) → nat_abs (way e) ≤ 1
 way_size (pos zero) = omega arith
 way_size (pos (suc n)) = omega arith
@@ -65,8 +50,17 @@ step_size e ex = rw ex (way_size e)
 pub can_is : (limit : ℕ) (e : ℤ) (w : ℕ → ℤ) (k : ℕ) {r : Bool} {x y : ℤ} → r ≡ in_type_value limit (y +ℤ x) → y ≡ w k → x ≡ way e → r ≡ movable limit e w k
 can_is limit e w k er ey ex = er ∙ rw (ey, ex) refl
 
-pub count_turn : (t : ℕ → Bool) (k : ℕ) {q c : ℕ} {r : Bool} → q ≡ c + cond r 1 0 → c ≡ count t k → r ≡ t k → q ≡ count t (k + 1)
-count_turn t k eq ec er = eq ∙ rw (ec, er) (sym (count_on t k))
+-- what a test adds to a count
+one_more : (r : Bool) → bool_byte r ≡ cond r 1 0
+one_more true = refl
+one_more false = refl
+
+pub one_small : (r : Bool) → bool_byte r ≤ 1
+one_small true = omega arith
+one_small false = omega arith
+
+pub count_turn : (t : ℕ → Bool) (k : ℕ) {c d : ℕ} {r : Bool} → d ≡ bool_byte r → c ≡ count t k → r ≡ t k → c + d ≡ count t (k + 1)
+count_turn t k {c} {d} {r} ed ec er = rw (ed, one_more r, ec, er) (sym (count_on t k))
 
 -- a count of what passes below k is below k + 1
 pub count_room : (t : ℕ → Bool) (k n : ℕ) {c : ℕ} → c ≡ count t k → k < n → c + 1 ≤ n

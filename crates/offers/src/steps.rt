@@ -1,31 +1,15 @@
 // Single weights, in 64 bits, where nothing wraps.
-ghost use Rattle.std.specs.Prelude.{◌≡◌, cond, ◌+◌, ◌^◌, ◌≤◌, ◌<◌, pos, nat_abs, ◌+ℤ◌};
+ghost use Rattle.std.specs.Prelude.{◌≡◌, cond, ◌+◌, ◌^◌, ◌≤◌, pos, nat_abs, ◌+ℤ◌};
 ghost use Rattle.offers.specs.Repair.{in_type_value};
 ghost use Rattle.offers.specs.Own.{way as way_of};
 
 use excesses::{add, power};
 
-// The size of a signed number. -1 - v fits for every v below 0, where -v would not.
-pub fn size(v: i64) -> u64
-    ensures answer { result ≡ nat_abs v }
-{
-    if v < 0 {
-        return ((-1 - v) as u64) + 1;
-    }
-    v as u64
-}
-
-// The step that an excess asks for.
+// The step that an excess asks for: down where the total is too large, up where it is too small.
 pub fn way(e: i64) -> i64
     ensures answer { result ≡ way_of e }
 {
-    if e < 0 {
-        return 1;
-    }
-    if 0 < e {
-        return -1;
-    }
-    0
+    -e.signum()
 }
 
 // Whether a number is inside the type of `limit` bits and a sign.
@@ -57,15 +41,4 @@ pub fn slot(w: i64, s: i64, goes: bool, used: bool) -> i64
         return add(w, s);
     }
     w
-}
-
-// One more where it counts.
-pub fn tally(c: usize, counts: bool) -> usize
-    requires { c + 1 < 2 ^ 64 }
-    ensures answer { result ≡ c + cond counts 1 0 }
-{
-    if counts {
-        return c + 1;
-    }
-    c
 }

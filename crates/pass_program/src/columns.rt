@@ -1,67 +1,49 @@
 // Which columns the words ask for.
 use crate::said;
-use frame_files::{Whole, no_number, whole_at};
+use frame_files::{no_number, whole_at};
 
-// The columns asked for, of a row; where they are none of it, why has been said.
-#[derive(Drop)]
+// Columns of a row: so many from the first on.
+#[derive(Clone, Copy)]
 pub(crate) struct Range {
     pub(crate) first: u32,
     pub(crate) count: u32,
-    pub(crate) good: bool,
 }
 
 // Whether there are two words, or four; where there are not, that has been said.
 pub(crate) fn counted(rt: HostRuntime) -> bool {
-    let n = program_streams::argument_count(rt);
-    if (n == 3) | (n == 5) {
-        return true;
-    }
-    said::words(rt);
-    false
-}
-
-fn none() -> Range {
-    Range {
-        first: 0,
-        count: 0,
-        good: false,
+    match program_streams::argument_count(rt) {
+        3 | 5 => true,
+        _ => {
+            said::words(rt);
+            false
+        }
     }
 }
 
 // The columns from FIRST on, COUNT of them.
-fn ranged(rt: HostRuntime, row: u32) -> Range {
-    let first = whole_at(rt, 3);
-    let Whole::Is(f) = first else {
-        no_number(rt, b"first", b"FIRST");
-        return none();
+fn ranged(rt: HostRuntime, row: u32) -> Option<Range> {
+    let Some(first) = whole_at(rt, 3) else {
+        no_number(rt, "first", "FIRST");
+        return None;
     };
-    let count = whole_at(rt, 4);
-    let Whole::Is(n) = count else {
-        no_number(rt, b"count", b"COUNT");
-        return none();
+    let Some(count) = whole_at(rt, 4) else {
+        no_number(rt, "count", "COUNT");
+        return None;
     };
-    if (row as u64) < f as u64 + n as u64 {
-        said::outside(rt, f, n, row);
-        return none();
+    if (row as u64) < first as u64 + count as u64 {
+        said::outside(rt, first, count, row);
+        return None;
     }
-    Range {
-        first: f,
-        count: n,
-        good: true,
-    }
+    Some(Range { first, count })
 }
 
-// All columns where no words name some.
-pub(crate) fn asked(rt: HostRuntime, row: u32) -> Range {
-    if row == 0 {
-        return none();
-    }
+// The columns asked for, of a row, all of them where no words name some; where they are none of it, why has been said.
+pub(crate) fn asked(rt: HostRuntime, row: u32) -> Option<Range> {
     if program_streams::argument_count(rt) < 5 {
-        return Range {
+        return Some(Range {
             first: 0,
             count: row,
-            good: true,
-        };
+        });
     }
     ranged(rt, row)
 }

@@ -18,14 +18,14 @@ pub(crate) const NO_PLACES: i32 = 29;
 fn line_end(text: &[u8], a: usize) -> usize
     ensures { result ≤ length text.now }
 {
-    let mut i = a;
-    while i < text.len() {
-        if text[i] == b'\n' {
-            return i;
-        }
-        i += 1;
+    let behind = match text.get(a..) {
+        Some(rest) => rest.iter().position(|&b| b == b'\n'),
+        None => None,
+    };
+    match behind {
+        Some(k) => a + k,
+        None => text.len(),
     }
-    text.len()
 }
 
 // Whether the state's second line, a number in octal, has the bit of a file to whose end is written: the second bit of the fourth digit from the right.
@@ -38,17 +38,13 @@ fn behind(text: &[u8]) -> bool {
     if e < 4 {
         return false;
     }
-    match text[e - 4] {
-        b'2' | b'3' | b'6' | b'7' => true,
-        _ => false,
-    }
+    matches!(text[e - 4], b'2' | b'3' | b'6' | b'7')
 }
 
 // Whether it was opened so that each write goes behind all that is there, as a shell's `>>` does.
 fn appends(rt: HostRuntime) -> bool {
     let mut text = [0u8; 256];
-    let opened = File::open(&rt, STATE);
-    let Ok(mut file) = opened else {
+    let Ok(mut file) = File::open(&rt, STATE) else {
         return false;
     };
     let n = program_streams::read_full(&mut file, &mut text);

@@ -1,11 +1,10 @@
 // A strip of columns in a file: the same columns of each row, by their places.
-ghost use Rattle.std.specs.Prelude.{◌≤◌};
-
 use crate::outgoing::NO_PLACES;
+use crate::said::Ended;
 use frame_files::bytes_in;
 use std::fs::File;
 use std::io;
-use std::io::{Error, Write};
+use std::io::Write;
 use std::os::unix::fs::FileExt;
 
 // Columns of a file of rows: so many rows of so many samples, and of each the columns from `first` on, `count` of them.
@@ -18,115 +17,82 @@ pub(crate) struct Strip {
     pub(crate) wide: bool,
 }
 
-// Whether all was written; or there was no more room, or the system refused it.
-#[derive(Clone, Copy)]
-pub(crate) enum Stored {
-    Whole,
-    Short,
-    Refused(Error),
+impl Strip {
+    // The byte where the columns of row i begin; the last place of all, which no file has, where they are past the sizes of frames.
+    fn place(self, i: u32) -> u64 {
+        (i as u64)
+            .saturating_mul(self.row as u64)
+            .saturating_add(self.first as u64)
+            .saturating_mul(bytes_in(1, self.wide))
+    }
 }
 
-// The samples before a place.
-fn cell(i: u32, row: u32, first: u32) -> u32
-    requires { (i ≤ 8192) × (row ≤ 32768) × (first ≤ 32768) }
-{
-    i * row + first
-}
-
-// The byte where the columns of row i begin; one that no file has where they are past the sizes of frames.
-fn place(i: u32, row: u32, first: u32, wide: bool) -> i64 {
-    if 8192 < i {
-        return -1;
-    }
-    if 32768 < row {
-        return -1;
-    }
-    if 32768 < first {
-        return -1;
-    }
-    bytes_in(cell(i, row, first), wide) as i64
-}
-
-// One row's part, read; whether it was there.
-fn row_read(file: &File, at: i64, part: &mut [u8]) -> bool {
+// One row's part, read.
+fn read_row(file: &File, at: u64, part: &mut [u8]) -> Result<(), Ended> {
     let n = part.len();
-    match file.read_at(part, at.cast_unsigned()) {
-        Ok(got) => got == n,
-        Err(_) => n == 0,
+    match file.read_at(part, at) {
+        Ok(got) if got == n => Ok(()),
+        Err(_) if n == 0 => Ok(()),
+        _ => Err(Ended::Frame),
     }
 }
 
-// One row's part, written. A write to a file is short only where there is no more room.
-fn row_written(file: &File, at: i64, part: &[u8]) -> Stored {
+// One row's part, written, where there is a file that it can be written to. A write to a file is short only where there is no more room.
+fn write_row(to: &io::Result<File>, at: u64, part: &[u8]) -> Result<(), Ended> {
     let n = part.len();
-    match file.write_at(part, at.cast_unsigned()) {
-        Ok(put) if put == n => Stored::Whole,
-        Ok(_) => Stored::Short,
-        Err(_) if n == 0 => Stored::Whole,
-        Err(why) => Stored::Refused(why),
+    let file = match to {
+        Ok(file) => file,
+        Err(why) => return Err(Ended::Unwritten(*why)),
+    };
+    match file.write_at(part, at) {
+        Ok(put) if put == n => Ok(()),
+        Ok(_) => Err(Ended::Full),
+        Err(_) if n == 0 => Ok(()),
+        Err(why) => Err(Ended::Unwritten(why)),
     }
 }
 
-// The same where there is a file that it can be written to.
-fn row_given(to: &io::Result<File>, at: i64, part: &[u8]) -> Stored {
-    match to {
-        Ok(file) => row_written(file, at, part),
-        Err(why) => Stored::Refused(*why),
-    }
-}
-
-// The strip's bytes, row after row; whether all could be read.
-pub(crate) fn read(file: &File, s: Strip, bytes: &mut [u8]) -> bool {
+// The strip's bytes, row after row.
+pub(crate) fn read(file: &File, s: Strip, bytes: &mut [u8]) -> Result<(), Ended> {
     let each = bytes_in(s.count, s.wide) as usize;
-    let mut i: u32 = 0;
     let mut a: usize = 0;
-    while i < s.rows {
+    for i in 0..s.rows {
         if bytes.len() - a < each {
-            return false;
+            return Err(Ended::Frame);
         }
         let e = a + each;
-        if !row_read(file, place(i, s.row, s.first, s.wide), &mut bytes[a..e]) {
-            return false;
-        }
+        read_row(file, s.place(i), &mut bytes[a..e])?;
         a = e;
-        i += 1;
     }
-    true
+    Ok(())
 }
 
-// Writes them to the frame that goes out; whether all could be written.
-pub(crate) fn write(to: &io::Result<File>, s: Strip, bytes: &[u8]) -> Stored {
+// Writes them to the frame that goes out.
+pub(crate) fn write(to: &io::Result<File>, s: Strip, bytes: &[u8]) -> Result<(), Ended> {
     let each = bytes_in(s.count, s.wide) as usize;
-    let mut i: u32 = 0;
-    let mut a: usize = 0;
-    while i < s.rows {
-        if bytes.len() - a < each {
-            return Stored::Short;
-        }
-        let e = a + each;
-        let row = row_given(to, place(i, s.row, s.first, s.wide), &bytes[a..e]);
-        let Stored::Whole = row else {
-            return row;
+    let mut left = bytes;
+    for i in 0..s.rows {
+        let Some((part, rest)) = left.split_at_checked(each) else {
+            return Err(Ended::Full);
         };
-        a = e;
-        i += 1;
+        write_row(to, s.place(i), part)?;
+        left = rest;
     }
-    Stored::Whole
+    Ok(())
 }
 
 // Where the output takes no places, as a pipe, and the strip is the whole frame: its bytes one after the other, which is the order that they have anyway.
-pub(crate) fn in_order(rt: HostRuntime, put: Stored, s: Strip, bytes: &[u8]) -> Stored {
-    let Stored::Refused(why) = put else {
+pub(crate) fn in_order(
+    rt: HostRuntime,
+    put: Result<(), Ended>,
+    s: Strip,
+    bytes: &[u8],
+) -> Result<(), Ended> {
+    let Err(Ended::Unwritten(why)) = put else {
         return put;
     };
-    if s.count != s.row {
+    if s.count != s.row || why.raw_os_error() != Some(NO_PLACES) {
         return put;
     }
-    if why.raw_os_error() != Some(NO_PLACES) {
-        return put;
-    }
-    match rt.stdout().write_all(bytes) {
-        Ok(()) => Stored::Whole,
-        Err(other) => Stored::Refused(other),
-    }
+    rt.stdout().write_all(bytes).map_err(Ended::Unwritten)
 }

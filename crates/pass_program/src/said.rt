@@ -1,60 +1,51 @@
 // How far the pass is, and why it ends before the last column.
-use crate::places::Stored;
-use refusal::Refusal;
-use sheet_files::streams::{err, err_number, out};
-use vertical::Passed;
+use refusal::{Numbered, Refusal};
+use std::io::Error;
+
+// Why a pass ends before its last column: the frame could not be read, the pass refused, or what goes out could not be written, as there was no more room
+// or the system said no.
+#[derive(Clone, Copy)]
+pub(crate) enum Ended {
+    Frame,
+    Pass(Refusal),
+    Full,
+    Unwritten(Error),
+}
 
 // Neither two words nor four.
 pub(crate) fn words(rt: HostRuntime) {
-    out(rt, b"unread=words why=count\n");
-    err(rt, b"SHEET FRAME are wanted, or SHEET FRAME FIRST COUNT\n");
+    let _ = println!(rt; "unread=words why=count");
+    let _ = eprintln!(rt; "SHEET FRAME are wanted, or SHEET FRAME FIRST COUNT");
 }
 
 // Columns past the row.
 pub(crate) fn outside(rt: HostRuntime, first: u32, count: u32, row: u32) {
-    out(rt, b"unread=columns why=outside\n");
-    err_number(rt, count as u64);
-    err(rt, b" columns from ");
-    err_number(rt, first as u64);
-    err(rt, b" on do not lie in a row of ");
-    err_number(rt, row as u64);
-    err(rt, b" samples\n");
+    let _ = println!(rt; "unread=columns why=outside");
+    let _ = eprintln!(rt; "{count} columns from {first} on do not lie in a row of {row} samples");
 }
 
 // The pass's own refusal.
 fn refused(rt: HostRuntime, refusal: Refusal) {
-    out(rt, b"refused=pass\n");
-    err(rt, b"the pass refuses the sheet: No. ");
-    err_number(rt, refusal::number(refusal) as u64);
-    err(rt, b"\n");
+    let number = refusal.number();
+    let _ = println!(rt; "refused=pass");
+    let _ = eprintln!(rt; "the pass refuses the sheet: No. {number}");
 }
 
-// Whether a pass is done; where it is not, why has been said.
-pub(crate) fn done(rt: HostRuntime, answer: Passed) -> bool {
-    match answer {
-        Passed::Done => true,
-        Passed::Refused(refusal) => {
-            refused(rt, refusal);
-            false
+// Why a pass ended. What the system said of a write stands behind it; of one that it cut short it says nothing.
+pub(crate) fn told(rt: HostRuntime, why: Ended) {
+    match why {
+        Ended::Frame => frame_files::no_frame(rt),
+        Ended::Pass(refusal) => refused(rt, refusal),
+        Ended::Full => {
+            let _ = eprintln!(rt; "the output cannot be written: no more room");
         }
-    }
-}
-
-// What the system said of the write stands behind it. Of one that it cut short it says nothing: there was no more room.
-pub(crate) fn unwritten(rt: HostRuntime, answer: Stored) {
-    match answer {
-        Stored::Refused(why) => {
-            program_streams::failed(rt, b"the output cannot be written", why);
+        Ended::Unwritten(error) => {
+            program_streams::failed(rt, b"the output cannot be written", error);
         }
-        _ => err(rt, b"the output cannot be written: no more room\n"),
     }
 }
 
 // So many columns of so many are written. The last such line says that the frame is whole.
 pub(crate) fn progress(rt: HostRuntime, at: u32, count: u32) {
-    err(rt, b"columns=");
-    err_number(rt, at as u64);
-    err(rt, b" of=");
-    err_number(rt, count as u64);
-    err(rt, b"\n");
+    let _ = eprintln!(rt; "columns={at} of={count}");
 }

@@ -1,5 +1,6 @@
 -- For the customer: a list function of alpha gives No. 10 exactly when the lists do not fit, and No. 0 exactly when they do; so for every input one row applies and no
 -- other. Over any width, so for `alpha_u16` too. Cited by docs/CONTRACTS.md. Assumes nothing.
+use Rattle.std.specs.Prelude.{Ok, Err}
 use mathlib.Core.Path.{◌≡◌, refl}
 use mathlib.Core.Bool.{Bool, true, false, cond}
 use mathlib.Core.List.{List}
@@ -8,11 +9,10 @@ use lib.ListN.{length}
 use Rattle.lists.specs.Ladder.{Exactly, given, Due}
 use Rattle.lists.proofs.LadderLaws.{exactly_due}
 use Rattle.refusal.specs.declared.Refusal.TheVariants.{DoesNotFit}
-use Rattle.pixel_lists.specs.declared.Applied.TheVariants.{Done, Refused}
 use Rattle.pixel_lists.specs.Lists.{bad_lists_value, applied_to, number_of}
 use Rattle.pixel_lists.proofs.Tests.{rows}
 
-numbered : (t : Bool) → number_of (cond t (Refused DoesNotFit) Done) ≡ cond t 10 0
+numbered : (t : Bool) → number_of (cond t (Err DoesNotFit) (Ok tt)) ≡ cond t 10 0
 numbered true = refl
 numbered false = refl
 

@@ -3,11 +3,6 @@ use mathlib.Core.Path.{◌∙◌, sym}
 use Rattle.lists.proofs.Sure.{DecidesResult}
 use Rattle.pixel_lists.proofs.bad_lists.Kinds as bad-lists
 use Rattle.pixel_lists.proofs.bad_lists.Reads as bad-lists-reads
-use Rattle.pixel_lists.proofs.Applied.number.Kinds as number
-use Rattle.pixel_lists.proofs.Applied.number.Reads as number-reads
 
 pub bad_lists_decides : DecidesResult bad-lists.ps bad-lists.r bad-lists-reads.Post
 bad_lists_decides κs a x y s t p q = p ∙ sym q
-
-pub number_decides : DecidesResult number.ps number.r number-reads.Post
-number_decides κs a x y s t p q = p ∙ sym q

@@ -1,24 +1,22 @@
 -- Lists of pixels, four components each, alpha last: when they are refused, what the answer is, and what the lent list holds afterwards.
 -- Over the components' width. Cited by the contracts of the list functions of `alpha` and `alpha_u16`. Definitions only. Assumes nothing.
-use Rattle.std.specs.Prelude.{Bool, cond, not, ◌||◌, List, ℕ, ◌+◌, ◌*◌, ◌/◌, ◌%◌, eqb, length, get_or, set}
+use Rattle.std.specs.Prelude.{Bool, cond, not, ◌||◌, List, ℕ, ◌+◌, ◌*◌, ◌/◌, ◌%◌, eqb, length, get_or, set, Result, Ok, Err, ⊤}
 use Rattle.lists.specs.Tab.{tab}
 use Rattle.refusal.specs.declared.Refusal.TheVariants.{DoesNotFit}
-use Rattle.refusal.specs.Refusal.{number_of as refusalNumber}
-use Rattle.pixel_lists.specs.declared.Applied.{Applied}
-use Rattle.pixel_lists.specs.declared.Applied.TheVariants.{Done, Refused}
+use Rattle.refusal.specs.Refusal.{number_in}
+use Rattle.refusal.specs.declared.Refusal.{Refusal}
 
 -- the lists' lengths are unequal, or no multiple of 4
 abbrev pub bad_lists_value : ℕ → ℕ → Bool
 bad_lists_value src dst = not (eqb src dst) || not (eqb (src % 4) 0)
 
 -- the answer: No. 10 for such lists, else done
-abbrev pub applied_to : List ℕ → List ℕ → Applied
-applied_to src dst = cond (bad_lists_value (length src) (length dst)) (Refused DoesNotFit) Done
+abbrev pub applied_to : List ℕ → List ℕ → Result ⊤ Refusal
+applied_to src dst = cond (bad_lists_value (length src) (length dst)) (Err DoesNotFit) (Ok tt)
 
 -- 01's number of an answer; no answer has a number beside it
-abbrev pub number_of : Applied → ℕ
-number_of Done = 0
-number_of (Refused refusal) = refusalNumber refusal
+abbrev pub number_of : Result ⊤ Refusal → ℕ
+number_of = number_in
 
 -- component k of the result: alpha is kept, a colour goes with the alpha of its own pixel
 abbrev pub component_at : (ℕ → ℕ → ℕ) → List ℕ → ℕ → ℕ

@@ -6,13 +6,6 @@ ghost use Rattle.pixels_u16.specs.Places.{side_by_side, at_once_value, row_value
 
 use super::blocks::pixels;
 
-// A start or a size as an index.
-fn wide(x: u32) -> usize
-    ensures { result ≡ x }
-{
-    x as usize
-}
-
 // The n rows from sample a on, into the output from b on: window i has the pixels from starts[i] on, sizes[i] of them, and the weights from i * window on.
 fn strip(
     src: &[u16],
@@ -36,12 +29,11 @@ fn strip(
     ensures { Put (row_values src.now a components row starts.now sizes.now window weights.now p) (behind b) (n * (length starts.now * components)) out.old out.new }
 {
     let across = starts.len() * components;
-    let mut i: usize = 0;
     let mut o = b;
-    while i < starts.len() {
+    for i in 0..starts.len() {
         let f = i * window;
-        let e = f + wide(sizes[i]);
-        let at = a + wide(starts[i]) * components;
+        let e = f + sizes[i] as usize;
+        let at = a + starts[i] as usize * components;
         pixels(
             src,
             at,
@@ -54,8 +46,7 @@ fn strip(
             across,
             n,
         );
-        o = o + components;
-        i = i + 1;
+        o += components;
     }
 }
 
@@ -104,13 +95,14 @@ pub fn fill_rows(
     let mut a = first * row;
     let mut b: usize = 0;
     let mut y: usize = 0;
+    // A `while`: a turn takes as many rows as `at_once` says, so no range has its steps.
     while y < count {
         let n = at_once(components, window, count - y);
         strip(
             src, a, components, row, weights, starts, sizes, window, p, out, b, n,
         );
-        a = a + n * row;
-        b = b + n * across;
-        y = y + n;
+        a += n * row;
+        b += n * across;
+        y += n;
     }
 }

@@ -16,10 +16,8 @@ fn add_pixels(src: &[u16], at: usize, components: usize, row: usize, w: f64, ss:
     requires by_index { (t : ℕ) → t < length ss.old → place_at at components row t < length src.now }
     ensures { ss.new ≡ tab 0 (length ss.old) (added_at ss.old w src.now at components row) }
 {
-    let mut t: usize = 0;
-    while t < ss.len() {
-        ss[t] = added(ss[t], w, src[at + t / components * row + t % components]);
-        t = t + 1;
+    for (t, sum) in ss.iter_mut().enumerate() {
+        *sum = added(*sum, w, src[at + t / components * row + t % components]);
     }
 }
 
@@ -40,10 +38,8 @@ pub(crate) fn sum_pixels(
     ensures by_index_4 { (t : ℕ) → t < length ss.old → nat_abs (column_sum ws.now src.now (place_at at0 components row t) components (length ws.now)) < 2 ^ 52 }
 {
     let mut at = at0;
-    let mut k: usize = 0;
-    while k < ws.len() {
-        add_pixels(src, at, components, row, weight(ws[k]), ss);
-        at = at + components;
-        k = k + 1;
+    for w in ws {
+        add_pixels(src, at, components, row, weight(*w), ss);
+        at += components;
     }
 }

@@ -52,11 +52,7 @@ fn zero_weights(count: usize, out: &mut [f64])
     requires { count ≤ length out.old }
     ensures written { out.new ≡ front count zero_weight out.old }
 {
-    let mut k: usize = 0;
-    while k < count {
-        out[k] = 0.0;
-        k += 1;
-    }
+    out[..count].fill(0.0);
 }
 
 // The first `count` starts or sizes set to 0.
@@ -64,11 +60,7 @@ fn zero_lines(count: usize, out: &mut [u32])
     requires { count ≤ length out.old }
     ensures written { out.new ≡ front count zero_line out.old }
 {
-    let mut k: usize = 0;
-    while k < count {
-        out[k] = 0;
-        k += 1;
-    }
+    out[..count].fill(0);
 }
 
 // Every window; on the first blank one all is set to 0 and its line given, else the number of lines.
@@ -89,8 +81,7 @@ pub fn all_windows(
     let w = p.window as usize;
     let slots = n * w;
     let mut a: usize = 0;
-    let mut k: usize = 0;
-    while k < n {
+    for k in 0..n {
         let e = a + w;
         let span = one_window(p, DisplayLine(k as u32), &mut weights[a..e]);
         if span.total == 0.0 {
@@ -102,7 +93,6 @@ pub fn all_windows(
         starts[k] = span.window.start.0;
         sizes[k] = span.window.size;
         a = e;
-        k += 1;
     }
-    DisplayLine(k as u32)
+    DisplayLine(p.output)
 }

@@ -1,5 +1,6 @@
 -- What a crop that is inside passed, read off the crop's own rows: each axis has a side of 1 to 8,192, finite numbers, a width that is not negative, and
 -- edges within the side, the far one as it is rounded. Cited by PlanLaws. Assumes nothing.
+use Rattle.std.specs.Prelude.{Ok}
 use mathlib.Core.Path.{◌≡◌, sym, ap, ◌∙◌, subst}
 use mathlib.Core.Bool.{false, ◌||◌}
 use Prim.Native.Nat.{ℕ}
@@ -10,7 +11,6 @@ use Rattle.lists.specs.Ranges.{bad_sides_value}
 use Rattle.lists.proofs.BoolLaws.{or_left, or_right}
 use Rattle.lists.proofs.RangeLaws.{first_side, second_side}
 use Rattle.crop_box.specs.declared.CropBox.{CropBox}
-use Rattle.crop_box.specs.declared.Cropped.TheVariants.{Inside}
 use Rattle.crop_box.specs.Crop.{crop_of, number_of, box_of, not_finite_value, negative_extent_value, start_outside_value, end_outside_value}
 use Rattle.crop_box.specs.End.{ends_past_value}
 use Rattle.crop_box.proofs.Rows.{crop_exactly}
@@ -61,7 +61,7 @@ same_box : (w h : ℕ) (b : CropBox) → number_of (crop_of w h b) ≡ 0 → box
 unfolding crop_of
 same_box w h b e = let all = (crop_exactly w h b 0).0 e in rw (all.0, all.1.0, all.1.1.0, all.1.1.1.0, all.1.1.1.1.0)
 
-pub crop_passed : (w h : ℕ) (b b' : CropBox) → crop_of w h b ≡ Inside b' → Both w h b'
+pub crop_passed : (w h : ℕ) (b b' : CropBox) → crop_of w h b ≡ Ok b' → Both w h b'
 crop_passed w h b b' e =
     let zero : number_of (crop_of w h b) ≡ 0 = ap number_of e in
     let all = (crop_exactly w h b 0).0 zero in

@@ -1,5 +1,6 @@
 -- A plan made from a request that was not refused is `Sound`: from the crop's tests, through `Bounds`, to the radius, the window size and every centre.
 -- And what `plan_with` gave is `plan_with_value`. Cited by the proofs of `plan_with` and `build`, and by BuiltLaws. Assumes nothing.
+use Rattle.std.specs.Prelude.{Result, Ok, Err, Option, Some, None}
 use mathlib.Core.Path.{◌≡◌, refl, ap, ◌∙◌, subst}
 use mathlib.Core.Bool.{Bool, true, false, ◌||◌, cond}
 use Prim.Native.Nat.{ℕ, ◌+◌, ◌*◌, ◌^◌, ◌≤◌, ◌<◌}
@@ -21,13 +22,9 @@ use Rattle.numbers.proofs.Ranges.{half_within}
 use Rattle.refusal.specs.declared.Refusal.{Refusal}
 use Rattle.refusal.specs.declared.Refusal.TheVariants.{BadSide, NoScale, RetiredFilter}
 use Rattle.crop_box.specs.declared.CropBox.{CropBox}
-use Rattle.crop_box.specs.declared.Cropped.{Cropped}
-use Rattle.crop_box.specs.declared.Cropped.TheVariants.{Inside, Refused as CropRefused}
 use Rattle.crop_box.specs.Crop.{crop_of}
 use Rattle.filters.specs.declared.Filter.{Filter}
 use Rattle.filters.specs.declared.Filter.TheVariants.{Box, Bilinear, CatmullRom}
-use Rattle.filters.specs.declared.Picked.{Picked}
-use Rattle.filters.specs.declared.Picked.TheVariants.{Is, Retired}
 use Rattle.filters.specs.Names.{picked_of}
 use Rattle.filters.specs.Filters.{support_of}
 use Rattle.floats.specs.Doubles.{zero64, half64, one64}
@@ -36,7 +33,6 @@ use Rattle.plans.specs.declared.Axis.TheVariants.{Across, Down}
 use Rattle.plans.specs.declared.Edge.{Edge}
 use Rattle.plans.specs.declared.Request.{Request}
 use Rattle.plans.specs.declared.Plan.{Plan}
-use Rattle.plans.specs.declared.Planned.TheVariants.{Ready, Refused}
 use Rattle.plans.specs.Plan.{centre}
 use Rattle.plans.specs.Inner.{Sound}
 use Rattle.plans.specs.Plan.{edge_of, scale_of, filter_scale_of, radius_of, plan_for, scaled, after_crop, plan_with_value, plan_by, plan_of, bad_output, no_scale}
@@ -125,25 +121,25 @@ output_in n e =
     let y : n ≤ 8192 = ltb-false 8192 n (or_right (ltb n 1) (ltb 8192 n) e) in
     (x, y)
 
-unlike : (refusal : Refusal) (p : Plan) → Refused refusal ≡ Ready p → ⊥
+unlike : (refusal : Refusal) (p : Plan) → ◌≡◌ {A = Result Plan Refusal} (Err refusal) (Ok p) → ⊥
 unlike refusal p h = let z : ◌≡◌ {A = ℕ} 0 1 = cc in omega arith
 
-ready : (x y : Plan) → Ready x ≡ Ready y → x ≡ y
+ready : (x y : Plan) → ◌≡◌ {A = Result Plan Refusal} (Ok x) (Ok y) → x ≡ y
 ready x y h = cc
 
-after_by : (f : Filter) (q : Request) (p : Plan) (Good : Plan → Type 0) (c : Cropped) → crop_of q.width q.height q.crop ≡ c
+after_by : (f : Filter) (q : Request) (p : Plan) (Good : Plan → Type 0) (c : Result CropBox Refusal) → crop_of q.width q.height q.crop ≡ c
     → ((b : CropBox) → Both q.width q.height b → no_scale (edge_of q.axis q.width q.height b) q.output ≡ false → Good (plan_for f q.adapts (edge_of q.axis q.width q.height b) q.output))
-    → after_crop f q c ≡ Ready p → Good p
+    → after_crop f q c ≡ Ok p → Good p
 unfolding after_crop scaled
-after_by f q p Good (CropRefused refusal) e good h = absurd (unlike refusal p h)
-after_by f q p Good (Inside b) e good h =
+after_by f q p Good (Err refusal) e good h = absurd (unlike refusal p h)
+after_by f q p Good (Ok b) e good h =
     let ed = edge_of q.axis q.width q.height b in
     let s = ladder (no_scale ed q.output) (unlike NoScale p) h in
     subst Good (ready (plan_for f q.adapts ed q.output) p s.1) (good b (crop_passed q.width q.height q.crop b e) s.0)
 
 with_by : (f : Filter) (q : Request) (p : Plan) (Good : Plan → Type 0)
     → ((b : CropBox) → Both q.width q.height b → 0 < q.output → q.output ≤ 8192 → Within (scale_of (edge_of q.axis q.width q.height b) q.output) 8192 → Good (plan_for f q.adapts (edge_of q.axis q.width q.height b) q.output))
-    → plan_with_value f q ≡ Ready p → Good p
+    → plan_with_value f q ≡ Ok p → Good p
 unfolding plan_with_value
 with_by f q p Good good e =
     let s1 = ladder (bad_output q.output) (unlike BadSide p) e in
@@ -153,16 +149,16 @@ with_by f q p Good good e =
 -- a plan was made with the filter that the request's name picks, from a box that passed the crop, with a scale above 0 and an output side in its range: what holds of
 -- every such plan holds of it
 pub plan_by_fact : (q : Request) (p : Plan) (Good : Plan → Type 0)
-    → ((f : Filter) → picked_of q.filter ≡ Is f → (b : CropBox) → Both q.width q.height b → 0 < q.output → q.output ≤ 8192 → Within (scale_of (edge_of q.axis q.width q.height b) q.output) 8192 → Good (plan_for f q.adapts (edge_of q.axis q.width q.height b) q.output))
-    → plan_of q ≡ Ready p → Good p
+    → ((f : Filter) → picked_of q.filter ≡ Some f → (b : CropBox) → Both q.width q.height b → 0 < q.output → q.output ≤ 8192 → Within (scale_of (edge_of q.axis q.width q.height b) q.output) 8192 → Good (plan_for f q.adapts (edge_of q.axis q.width q.height b) q.output))
+    → plan_of q ≡ Ok p → Good p
 unfolding plan_of
 plan_by_fact q p Good good = go (picked_of q.filter) refl
   where
-    go : (x : Picked) → picked_of q.filter ≡ x → plan_by q x ≡ Ready p → Good p
-    go Retired is h = absurd (unlike RetiredFilter p h)
-    go (Is f) is h = with_by f q p Good (good f is) h
+    go : (x : Option Filter) → picked_of q.filter ≡ x → plan_by q x ≡ Ok p → Good p
+    go None is h = absurd (unlike RetiredFilter p h)
+    go (Some f) is h = with_by f q p Good (good f is) h
 
-pub plan_sound : (q : Request) (p : Plan) → plan_of q ≡ Ready p → Sound p
+pub plan_sound : (q : Request) (p : Plan) → plan_of q ≡ Ok p → Sound p
 plan_sound q p =
     plan_by_fact q p Sound
     (λ f is b ok some few w.
@@ -170,13 +166,13 @@ plan_sound q p =
     (edge_side q.axis q.width q.height b ok) (edge_near q.axis q.width q.height b ok) w)
 
 -- ---- what `plan_with` gave is `plan_with_value`
-module _ (f : Filter) (q : Request) (b : CropBox) (inside : crop_of q.width q.height q.crop ≡ Inside b) (output : ltb q.output 1 || ltb 8192 q.output ≡ false) where
+module _ (f : Filter) (q : Request) (b : CropBox) (inside : crop_of q.width q.height q.crop ≡ Ok b) (output : ltb q.output 1 || ltb 8192 q.output ≡ false) where
   to_scaled : scaled f q.adapts (edge_of q.axis q.width q.height b) q.output ≡ plan_with_value f q
   unfolding plan_with_value after_crop
   to_scaled = rw (output, inside)
 
   module _ (e : Edge) (edge : e ≡ edge_of q.axis q.width q.height b) where
-    pub plan_flat : le (scale_of e q.output) zero64 ≡ true → Refused NoScale ≡ plan_with_value f q
+    pub plan_flat : le (scale_of e q.output) zero64 ≡ true → Err NoScale ≡ plan_with_value f q
     unfolding scaled
     plan_flat l = let m = rw edge at l in rw (← to_scaled, m)
 
@@ -189,7 +185,7 @@ module _ (f : Filter) (q : Request) (b : CropBox) (inside : crop_of q.width q.he
         rw (es, ek, edge) (radius_within f q.adapts (scale_of (edge_of q.axis q.width q.height b) q.output) w)
 
     pub plan_is : (s k : Float) (z : ℕ) → le (scale_of e q.output) zero64 ≡ false → s ≡ support_of f → k ≡ filter_scale_of q.adapts (scale_of e q.output) → z ≡ window (mul binary64 s k)
-        → Ready (record {
+        → Ok (record {
           filter = f;
           side = e.side;
           output = q.output;

@@ -3,23 +3,8 @@
 use Rattle.std.specs.Prelude.{◌≡◌, ℕ, ◌^◌, ◌≤◌, ◌<◌}
 use Rattle.floats.specs.Within.{Within}
 use Rattle.numbers.specs.Window.{window}
-use Rattle.refusal.specs.declared.Refusal.{Refusal}
-use Rattle.crop_box.specs.declared.Cropped.{Cropped}
-use Rattle.crop_box.specs.declared.Cropped.TheVariants.{Inside, Refused as CropRefused}
 use Rattle.plans.specs.declared.Plan.{Plan}
-use Rattle.plans.specs.declared.Planned.{Planned}
-use Rattle.plans.specs.declared.Planned.TheVariants.{Ready, Refused}
 use Rattle.plans.specs.Plan.{centre}
-
--- the crop's own refusal, or another of a box that is inside
-abbrev pub crop_refusal_value : Cropped → Refusal → Refusal
-crop_refusal_value (Inside b) other = other
-crop_refusal_value (CropRefused refusal) other = refusal
-
--- the refusal of a request, or another of one that is ready
-abbrev pub planned_refusal_value : Planned → Refusal → Refusal
-planned_refusal_value (Ready p) other = other
-planned_refusal_value (Refused refusal) other = refusal
 
 -- what the plan of a request that was not refused keeps (`plan_sound`)
 pub record Sound (p : Plan) : Type 0 where

@@ -1,17 +1,14 @@
 -- From a request to the plan of its windows, or its refusal. Cited by the contract of `build`, by `plan_windows` and by the promises.
 -- Definitions only. Assumes nothing.
-use Rattle.std.specs.Prelude.{Bool, cond, ℕ, Float}
+use Rattle.std.specs.Prelude.{Bool, cond, ℕ, Float, Result, Ok, Err, Option, Some, None}
 use Rattle.std.specs.Float.Ieee.{lt, le}
 use Rattle.lists.specs.Ranges.{outside}
 use Rattle.numbers.specs.Window.{window}
 use Rattle.refusal.specs.declared.Refusal.TheVariants.{BadSide, NoScale, RetiredFilter}
 use Rattle.crop_box.specs.declared.CropBox.{CropBox}
-use Rattle.crop_box.specs.declared.Cropped.{Cropped}
-use Rattle.crop_box.specs.declared.Cropped.TheVariants.{Inside, Refused as CropRefused}
+use Rattle.refusal.specs.declared.Refusal.{Refusal}
 use Rattle.crop_box.specs.Crop.{crop_of}
 use Rattle.filters.specs.declared.Filter.{Filter}
-use Rattle.filters.specs.declared.Picked.{Picked}
-use Rattle.filters.specs.declared.Picked.TheVariants.{Is, Retired}
 use Rattle.filters.specs.Names.{picked_of}
 use Rattle.filters.specs.Filters.{support_of}
 use Rattle.floats.specs.Doubles.{zero64, half64, one64, double, ◌plus◌, ◌minus◌, ◌times◌, ◌over◌}
@@ -20,8 +17,6 @@ use Rattle.plans.specs.declared.Axis.TheVariants.{Across, Down}
 use Rattle.plans.specs.declared.Edge.{Edge}
 use Rattle.plans.specs.declared.Request.{Request}
 use Rattle.plans.specs.declared.Plan.{Plan}
-use Rattle.plans.specs.declared.Planned.{Planned}
-use Rattle.plans.specs.declared.Planned.TheVariants.{Ready, Refused}
 
 -- the near edge is left (or top), the far edge left + width (or top + height), rounded once
 unfoldable pub edge_of : Axis → ℕ → ℕ → CropBox → Edge
@@ -62,25 +57,25 @@ abbrev pub no_scale : Edge → ℕ → Bool
 no_scale e output = le (scale_of e output) zero64
 
 -- the plan, or No. 6
-unfoldable pub scaled : Filter → Bool → Edge → ℕ → Planned
-scaled f adapts e output = cond (no_scale e output) (Refused NoScale) (Ready (plan_for f adapts e output))
+unfoldable pub scaled : Filter → Bool → Edge → ℕ → Result Plan Refusal
+scaled f adapts e output = cond (no_scale e output) (Err NoScale) (Ok (plan_for f adapts e output))
 
 -- a refused crop ends the request with the crop's own number
-unfoldable pub after_crop : Filter → Request → Cropped → Planned
-after_crop f q (Inside b) = scaled f q.adapts (edge_of q.axis q.width q.height b) q.output
-after_crop f q (CropRefused refusal) = Refused refusal
+unfoldable pub after_crop : Filter → Request → Result CropBox Refusal → Result Plan Refusal
+after_crop f q (Ok b) = scaled f q.adapts (edge_of q.axis q.width q.height b) q.output
+after_crop f q (Err refusal) = Err refusal
 
 -- with a filter: No. 1 of the output side first, then the crop's 1 to 5, then 6
-unfoldable pub plan_with_value : Filter → Request → Planned
-plan_with_value f q = cond (bad_output q.output) (Refused BadSide) (after_crop f q (crop_of q.width q.height q.crop))
+unfoldable pub plan_with_value : Filter → Request → Result Plan Refusal
+plan_with_value f q = cond (bad_output q.output) (Err BadSide) (after_crop f q (crop_of q.width q.height q.crop))
 
 -- with what its name picks: a retired name is No. 16, whatever else is asked
-abbrev pub plan_by : Request → Picked → Planned
-plan_by q Retired = Refused RetiredFilter
-plan_by q (Is f) = plan_with_value f q
+abbrev pub plan_by : Request → Option Filter → Result Plan Refusal
+plan_by q None = Err RetiredFilter
+plan_by q (Some f) = plan_with_value f q
 
 -- No. 16 before every other number
-unfoldable pub plan_of : Request → Planned
+unfoldable pub plan_of : Request → Result Plan Refusal
 plan_of q = plan_by q (picked_of q.filter)
 
 -- the centre of the display line i: near + (i + 0.5) x scale

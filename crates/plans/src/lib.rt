@@ -3,8 +3,7 @@
 
 mod planning;
 
-pub use planning::{planned_refusal, prepare};
-use refusal::Refusal;
+pub use planning::prepare;
 
 // The axis that is built: across the image (columns) or down it (lines).
 #[derive(Clone, Copy)]
@@ -44,10 +43,4 @@ pub struct Plan {
     pub recip: f64,
     pub radius: f64,
     pub window: u32,
-}
-
-#[derive(Clone, Copy)]
-pub enum Planned {
-    Ready(Plan),
-    Refused(Refusal),
 }

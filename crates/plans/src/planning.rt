@@ -3,10 +3,9 @@ ghost use Rattle.std.specs.Prelude.{◌≡◌, ◌≤◌, ◌^◌};
 ghost use Rattle.floats.specs.Within.{Within};
 ghost use Rattle.numbers.specs.Window.{window};
 ghost use Rattle.plans.specs.Plan.{edge_of, filter_scale_of, plan_with_value, plan_of};
-ghost use Rattle.plans.specs.Inner.{crop_refusal_value, planned_refusal_value};
 
-use crate::{Axis, Edge, Plan, Planned, Request};
-use filters::{Filter, Picked};
+use crate::{Axis, Edge, Plan, Request};
+use filters::Filter;
 use refusal::Refusal;
 
 // The crop along the axis: the image side, the near edge and the far edge.
@@ -47,49 +46,30 @@ fn window_size(radius: f64) -> u32
     numbers::ceil(radius) as u32 * 2 + 1
 }
 
-// The crop's own refusal; `other` of a box that is inside.
-fn crop_refusal(answer: crop_box::Cropped, other: Refusal) -> Refusal
-    ensures answer { result ≡ crop_refusal_value answer other }
-{
-    match answer {
-        crop_box::Cropped::Inside(_) => other,
-        crop_box::Cropped::Refused(refusal) => refusal,
-    }
-}
-
-// The refusal of a request; `other` of one that is ready.
-pub fn planned_refusal(planned: Planned, other: Refusal) -> Refusal
-    ensures answer { result ≡ planned_refusal_value planned other }
-{
-    match planned {
-        Planned::Ready(_) => other,
-        Planned::Refused(refusal) => refusal,
-    }
-}
-
 // The plan with a filter, or the refusal: of the output side, then the crop's own, then of the scale.
-fn plan_with(f: Filter, request: Request) -> Planned
+fn plan_with(f: Filter, request: Request) -> Result<Plan, Refusal>
     ensures answer { result ≡ plan_with_value f request }
 {
     let output = request.output;
     if (output < 1) | (8192 < output) {
-        return Planned::Refused(Refusal::BadSide);
+        return Err(Refusal::BadSide);
     }
-    let b = request.crop;
-    let answer = crop_box::crop(request.width, request.height, b);
-    let crop_box::Cropped::Inside(inside) = answer else {
-        return Planned::Refused(crop_refusal(answer, Refusal::BadSide));
+    // A rule of the project names the form of this place: the crop's answer is taken apart, and its refusal leaves by the other branch. `?` would say it too.
+    let answer = crop_box::crop(request.width, request.height, request.crop);
+    let inside = match answer {
+        Ok(inside) => inside,
+        Err(refusal) => return Err(refusal),
     };
     let axis = request.axis;
     let e = along(axis, request.width, request.height, inside);
     let scale = (e.far - e.near) / (output as f64);
     if scale <= 0.0 {
-        return Planned::Refused(Refusal::NoScale);
+        return Err(Refusal::NoScale);
     }
     let wide = filter_scale(request.adapts, scale);
     let radius = filters::support(f) * wide;
     let size = window_size(radius);
-    Planned::Ready(Plan {
+    Ok(Plan {
         filter: f,
         side: e.side,
         output: output,
@@ -102,13 +82,11 @@ fn plan_with(f: Filter, request: Request) -> Planned
 }
 
 // The plan with the filter that the request names. A retired name is refused before anything else is looked at.
-pub fn prepare(request: Request) -> Planned
+pub fn prepare(request: Request) -> Result<Plan, Refusal>
     ensures answer { result ≡ plan_of request }
 {
-    let kind = request.filter;
-    let picked = filters::pick(kind);
-    let Picked::Is(f) = picked else {
-        return Planned::Refused(Refusal::RetiredFilter);
+    let Some(f) = filters::pick(request.filter) else {
+        return Err(Refusal::RetiredFilter);
     };
     plan_with(f, request)
 }

@@ -4,48 +4,23 @@ ghost use Rattle.std.specs.Prelude.{◌≤◌, length};
 use std::env::FillError;
 use std::rt::Env;
 
-// How long an argument is; or there is none at the place, or it is longer than the list that it was to be put in.
-#[derive(Drop)]
-pub enum Length {
-    Is(usize),
-    Missing,
-    Long,
-}
-
-// Argument i, in the beginning of the list; how many bytes it has, 0 where there is none or it is longer than the list.
-pub fn argument(rt: HostRuntime, i: usize, buf: &mut [u8]) -> usize
-    ensures { result ≤ length buf.new }
+// Argument i, laid at the beginning of the list; no bytes where there is none or it is longer than the list. Where it matters why there is nothing, ask `rt.arg`.
+pub fn argument<'a>(rt: HostRuntime, i: usize, buf: &'a mut [u8]) -> &'a [u8]
+    ensures { length result.now ≤ length buf.old }
 {
-    match rt.arg(i, buf) {
-        Ok(n) => n,
-        Err(_) => 0,
-    }
-}
-
-// The same, where it matters why there is nothing.
-pub fn argument_length(rt: HostRuntime, i: usize, buf: &mut [u8]) -> Length {
-    match rt.arg(i, buf) {
-        Ok(n) => Length::Is(n),
-        Err(FillError::NotPresent) => Length::Missing,
-        Err(FillError::TooLong) => Length::Long,
-    }
+    let n = rt.arg(i, buf).unwrap_or(0);
+    &buf[..n]
 }
 
 // Whether there is an argument i.
 fn given(rt: HostRuntime, i: usize) -> bool {
     let mut room = [0u8; 1];
-    match argument_length(rt, i, &mut room) {
-        Length::Missing => false,
-        _ => true,
-    }
+    !matches!(rt.arg(i, &mut room), Err(FillError::NotPresent))
 }
 
 // How many there are, the program's own name among them.
 pub fn argument_count(rt: HostRuntime) -> usize {
-    for i in 0..usize::MAX {
-        if !given(rt, i) {
-            return i;
-        }
-    }
-    usize::MAX
+    (0..usize::MAX)
+        .find(|&i| !given(rt, i))
+        .unwrap_or(usize::MAX)
 }

@@ -12,52 +12,27 @@ pub fn decimal(n: u64, text: &mut [u8; 20]) -> usize
 fn hex_count(n: u64) -> usize
     ensures { result ≤ 16 }
 {
-    let mut k: usize = 1;
-    let mut m = n / 16;
-    while k < 16 {
-        if m == 0 {
-            return k;
-        }
-        m = m / 16;
-        k += 1;
+    match n.checked_ilog2() {
+        Some(highest) => highest as usize / 4 + 1,
+        None => 1,
     }
-    k
-}
-
-// So many digits, or as many as it has where those are more; 16 is the most.
-fn hex_places(n: u64, places: usize) -> usize
-    ensures { result ≤ 16 }
-{
-    let k = hex_count(n);
-    if places <= k {
-        return k;
-    }
-    if 16 < places {
-        return 16;
-    }
-    places
 }
 
 // A digit's byte, a small letter from ten on.
 fn hex_digit(d: u64) -> u8 {
-    let x = (d % 16) as u8;
-    if x < 10 {
-        return b'0' + x;
-    }
-    b'a' + (x - 10)
+    b"0123456789abcdef"[(d % 16) as usize]
 }
 
-// A number in so many hexadecimal digits, zeros before it, in the beginning of the list; how many bytes it has.
+// A number in so many hexadecimal digits, zeros before it, in the beginning of the list; how many bytes it has. It has as many as it needs where
+// those are more, and 16 at most.
 pub fn hex(n: u64, places: usize, text: &mut [u8; 16]) -> usize
     ensures { result ≤ 16 }
 {
-    let k = hex_places(n, places);
-    let mut m = n;
-    let mut i = k;
-    while 0 < i {
-        i -= 1;
-        text[i] = hex_digit(m);
-        m = m / 16;
+    let count = places.clamp(hex_count(n), 16);
+    let mut rest = n;
+    for place in text[..count].iter_mut().rev() {
+        *place = hex_digit(rest);
+        rest /= 16;
     }
-    k
+    count
 }

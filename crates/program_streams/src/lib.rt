@@ -10,9 +10,9 @@ mod files;
 mod rooms;
 mod writing;
 
-pub use arguments::{Length, argument, argument_count, argument_length};
+pub use arguments::{argument, argument_count};
 pub use failure::failed;
 pub use figures::{decimal, hex};
-pub use files::{Part, opened, read_full, read_once};
+pub use files::{opened, read_full};
 pub use rooms::room;
-pub use writing::{err, err_name, err_number, out, out_byte, out_number, written};
+pub use writing::{err, err_name, out, written};

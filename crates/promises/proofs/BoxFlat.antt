@@ -1,4 +1,5 @@
 -- The proofs of `BoxPremise` and `BoxFlat`: answers whose number is 0 are done, so BoxPremise has what it asks; then a flat frame is `flat_frame`'s. Assumes nothing.
+use Rattle.std.specs.Prelude.{Ok}
 use mathlib.Core.Path.{◌≡◌, subst}
 use mathlib.Core.List.{List}
 use Prim.Native.Nat.{ℕ, ◌*◌, ◌<◌}
@@ -9,7 +10,6 @@ use lib.ListN.{length}
 use Rattle.lists.specs.Tab.{tab}
 use Rattle.windows.specs.Set.{windows}
 use Rattle.plans.specs.declared.Request.{Request}
-use Rattle.coefficients.specs.declared.Built.TheVariants.{Done}
 use Rattle.coefficients.specs.Answer.{window_of}
 use Rattle.coefficients.specs.Request.{built_of}
 use Rattle.normalizer.specs.Answer.{precision_in}
@@ -22,7 +22,7 @@ use Rattle.promises.proofs.BoxPremise.{near}
 use Rattle.promises.proofs.FlatFrame.{flat_frame}
 
 module _ (q : Request) (lines : ℕ) (ws : List Float) (ss zs : List ℕ) (out excesses : List ℤ) (ok : Accepted q lines ws ss zs out excesses) where
-  made : built_of q (length ws) (length ss) (length zs) ≡ Done (window_of (built q lines ws ss zs out excesses))
+  made : built_of q (length ws) (length ss) (length zs) ≡ Ok (window_of (built q lines ws ss zs out excesses))
   made = built_done (built q lines ws ss zs out excesses) ok.1
 
   premise : (i : ℕ) → i < q.output → NearOne (stored q lines ws ss zs out excesses) i

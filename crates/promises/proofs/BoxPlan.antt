@@ -1,4 +1,5 @@
 -- What a plan keeps of its request besides being sound: the filter that its name picks, and one over the filter scale, which is at most 1. Cited by BoxSet. Assumes nothing.
+use Rattle.std.specs.Prelude.{Ok, Some}
 use mathlib.Core.Path.{◌≡◌, refl, sym, ◌∙◌, subst}
 use mathlib.Core.Bool.{Bool, true, false, cond}
 use Prim.Native.Nat.{ℕ, ◌*◌, ◌<◌}
@@ -14,10 +15,8 @@ use Rattle.floats.proofs.Within.{within_value, round_within}
 use Rattle.floats.proofs.Integers.{int_value}
 use Rattle.floats.proofs.Value.{lt_values, div_values}
 use Rattle.floats.specs.Doubles.{one64, ◌over◌}
-use Rattle.filters.specs.declared.Picked.TheVariants.{Is}
 use Rattle.filters.specs.Names.{picked_of}
 use Rattle.plans.specs.declared.Request.{Request}
-use Rattle.plans.specs.declared.Planned.TheVariants.{Ready}
 use Rattle.plans.specs.declared.Plan.{Plan}
 use Rattle.plans.specs.Plan.{edge_of, scale_of, filter_scale_of, plan_of}
 use Rattle.plans.proofs.PlanLaws.{plan_by_fact}
@@ -53,11 +52,11 @@ recip_within true scale n w = go (lt one64 scale) refl
     go false e = one_over_one
 
 pub record Kept (q : Request) (p : Plan) : Type 0 where
-  pub filter_kept : picked_of q.filter ≡ Is p.filter
+  pub filter_kept : picked_of q.filter ≡ Some p.filter
   pub output_kept : p.output ≡ q.output
   pub recip_small : Within p.recip 1
 
-pub plan_kept : (q : Request) (p : Plan) → plan_of q ≡ Ready p → Kept q p
+pub plan_kept : (q : Request) (p : Plan) → plan_of q ≡ Ok p → Kept q p
 plan_kept q p =
     plan_by_fact q p (Kept q)
     (λ f is b ok some few w. record { filter_kept = is; output_kept = refl; recip_small = recip_within q.adapts (scale_of (edge_of q.axis q.width q.height b) q.output) 8192 w })

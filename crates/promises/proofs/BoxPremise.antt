@@ -1,5 +1,6 @@
 -- A Box set that was built and stored meets the premise of the flat frame at every window. The builder's half says that a window is n slots of 1 / n (BoxSet); no weight is above 1, so the precision is 30 to 45
 -- (BoxPrecision); no weight in use left its type, so each becomes the same integer K, and `box` gives n K near enough to 2^P. Assumes nothing.
+use Rattle.std.specs.Prelude.{Result, Ok}
 use mathlib.Core.Path.{◌≡◌, refl, sym, ap, ◌∙◌, subst}
 use mathlib.Core.Bool.{Bool, true, false, cond, not, ◌&&◌}
 use mathlib.Core.List.{List}
@@ -32,8 +33,7 @@ use Rattle.numbers.proofs.Sizes.{half_le}
 use Rattle.windows.specs.Set.{Set, set_of, Stored, stored_of, windows, in_use_value, distance_of}
 use Rattle.windows.specs.Store.{store32}
 use Rattle.excesses.proofs.SameExcess.{sum_ext}
-use Rattle.normalizer.specs.declared.Normalized.{Normalized}
-use Rattle.normalizer.specs.declared.Normalized.TheVariants.{Done as Normal}
+use Rattle.refusal.specs.declared.Refusal.{Refusal}
 use Rattle.weight_precision.specs.Precision.{power, scaled, integer}
 use Rattle.weight_precision.specs.Weights.{holds, leaves}
 use Rattle.weight_slots.specs.Slots.{slot_at}
@@ -42,7 +42,6 @@ use Rattle.normalizer.specs.Left.{answer_for}
 use Rattle.normalizer.proofs.Judged.{Ready, ready}
 use Rattle.filters.specs.declared.FilterType.TheVariants.{Box}
 use Rattle.plans.specs.declared.Request.{Request}
-use Rattle.coefficients.specs.declared.Built.TheVariants.{Done as Built}
 use Rattle.coefficients.specs.Request.{built_of}
 use Rattle.plan_windows.specs.Lines.{size}
 use Rattle.promises.specs.FlatFrames.{NearOne}
@@ -105,8 +104,8 @@ module _ (n P : ℕ) (some : 0 < n) (many : n ≤ 8192) (high : P ≤ 45) where
 
 -- ---- a Box set that the builder and the 32-bit normaliser accept
 module _ (q : Request) (lines : ℕ) (ws : List Float) (ss zs : List ℕ) (w : ℕ) (out excesses : List ℤ) (P : ℕ)
-    (box-asked : q.filter ≡ Box) (built : built_of q (length ws) (length ss) (length zs) ≡ Built w)
-    (normal : answer_for store32 (built_set q lines ws ss zs w) out excesses ≡ Normal P) where
+    (box-asked : q.filter ≡ Box) (built : built_of q (length ws) (length ss) (length zs) ≡ Ok w)
+    (normal : answer_for store32 (built_set q lines ws ss zs w) out excesses ≡ Ok P) where
   abbrev s : Set Float
   s = built_set q lines ws ss zs w
 
@@ -171,7 +170,7 @@ module _ (q : Request) (lines : ℕ) (ws : List Float) (ss zs : List ℕ) (w : �
     stored_at k l =
         let x = i * w + k in
         let there : x < windows s.layout * w = lt_of_lt_of_le (place k l) (le_of_eq (ap (λ (m : ℕ). m * w) (sym long))) in
-        ap (λ (a : Normalized). get_or (take (windows s.layout * w) (written_by store32 s a out)) x (pos 0)) normal
+        ap (λ (a : Result ℕ Refusal). get_or (take (windows s.layout * w) (written_by store32 s a out)) x (pos 0)) normal
         ∙ get_or-take (windows s.layout * w) (front (windows s.layout * w) (slot_at store32 P w s.weights s.layout.sizes) out) x (pos 0) there
         ∙ front_below (windows s.layout * w) (slot_at store32 P w s.weights s.layout.sizes) out x (pos 0) there
         ∙ ap (λ (t : Bool). cond t (integer store32 P (get_or s.weights x nan)) (pos 0)) (used k l)

@@ -1,5 +1,6 @@
 -- The lists of a set that was built, slot by slot those of its plan, and their lengths; of a Box set the shares of `BoxLines`, none above 1. Cited by BoxPremise, and of any filter by the crate `ringing`.
 -- Assumes nothing.
+use Rattle.std.specs.Prelude.{Ok, Some}
 use mathlib.Core.Path.{◌≡◌, sym, ap, ◌∙◌, subst}
 use mathlib.Core.Bool.{false, ◌||◌}
 use mathlib.Core.List.{List}
@@ -20,11 +21,9 @@ use Rattle.filters.specs.declared.FilterType.{FilterType}
 use Rattle.filters.specs.declared.FilterType.TheVariants.{Box}
 use Rattle.filters.specs.declared.Filter.{Filter}
 use Rattle.filters.specs.declared.Filter.TheVariants as filter
-use Rattle.filters.specs.declared.Picked.TheVariants.{Is}
 use Rattle.filters.specs.Names.{picked_of}
 use Rattle.plans.specs.declared.Request.{Request}
 use Rattle.plans.specs.declared.Plan.{Plan}
-use Rattle.coefficients.specs.declared.Built.TheVariants.{Done}
 use Rattle.plans.specs.Inner.{Sound}
 use Rattle.plan_windows.specs.Lines.{slots, lead, size, slot, blank}
 use Rattle.coefficients.specs.Request.{judged, built_of, weights_of, starts_of, sizes_of}
@@ -38,13 +37,13 @@ use Rattle.promises.proofs.BoxPlan.{Kept, plan_kept}
 use Rattle.promises.proofs.BoxLines.{lines, share, light}
 
 -- the name Box picks Box
-picked_box : (kind : FilterType) (f : Filter) → kind ≡ Box → picked_of kind ≡ Is f → f ≡ filter.Box
+picked_box : (kind : FilterType) (f : Filter) → kind ≡ Box → picked_of kind ≡ Some f → f ≡ filter.Box
 picked_box kind f e h = same f (rw e at h)
   where
-    same : (f : Filter) → Is filter.Box ≡ Is f → f ≡ filter.Box
+    same : (f : Filter) → Some filter.Box ≡ Some f → f ≡ filter.Box
     same f h = cc
 
-module _ (q : Request) (ws : List Float) (ss zs : List ℕ) (w : ℕ) (done : built_of q (length ws) (length ss) (length zs) ≡ Done w) where
+module _ (q : Request) (ws : List Float) (ss zs : List ℕ) (w : ℕ) (done : built_of q (length ws) (length ss) (length zs) ≡ Ok w) where
   pub set : DoneSet q (length ws) (length ss) (length zs) w
   set = done_set q (length ws) (length ss) (length zs) w done
 

@@ -1,10 +1,9 @@
 -- The column cuts by the answers' numbers: those of the u16 and the f32 pass are proved beside their definitions, that of the u8 pass is here. Assumes nothing.
+use Rattle.std.specs.Prelude.{Ok}
 use mathlib.Core.Path.{◌≡◌, ap}
-use mathlib.Core.List.{List}
 use Prim.Native.Nat.{ℕ, ◌+◌, ◌*◌, ◌≤◌}
 use lib.ListN.{length}
 use Rattle.windows.specs.Set.{Stored, windows}
-use Rattle.vertical.specs.declared.Passed.TheVariants.{Done}
 use Rattle.vertical.specs.Frame.{frame}
 use Rattle.vertical.specs.Passed.{number_of}
 use Rattle.vertical.specs.PassedF32.{number_of as numberOfF32}
@@ -23,7 +22,7 @@ columns_cut_u16 s src row whole done first count list fit room =
     (ap number_of cut.0, cut.1)
 
 -- where the whole frame is not refused, a range of columns that fits is not
-range_done_u8 : (s : Stored) (samples row whole : ℕ) → passed_u8 s samples row 0 row whole ≡ Done → (first count room : ℕ) → first + count ≤ row → room ≡ windows s.set.layout * count → passed_u8 s samples row first count room ≡ Done
+range_done_u8 : (s : Stored) (samples row whole : ℕ) → passed_u8 s samples row 0 row whole ≡ Ok tt → (first count room : ℕ) → first + count ≤ row → room ≡ windows s.set.layout * count → passed_u8 s samples row first count room ≡ Ok tt
 unfolding passed_u8
 range_done_u8 s samples row whole done first count room fit rooms =
     let t = tests_u8 s samples row 0 row whole done in

@@ -1,6 +1,6 @@
 -- The proofs of `FlatRow` and `FlatFrame`, once over the largest sample, and at 65535 and 255: a pass that did not refuse has all its windows inside the frame, so every sample in use is v, and `flat_unchanged` gives
 -- each value of a window that meets the premise; a frame whose rows are flat is flat. Assumes nothing.
-use mathlib.Core.Path.{◌≡◌, refl, sym, ap, ◌∙◌}
+use mathlib.Core.Path.{◌≡◌, refl, ap, ◌∙◌}
 use mathlib.Core.Bool.{true}
 use mathlib.Core.List.{List}
 use Prim.Native.Nat.{ℕ, ◌+◌, ◌-◌, ◌*◌, ◌/◌, ◌%◌, ◌^◌, ◌≤◌, ◌<◌}
@@ -8,12 +8,11 @@ use native.Mathlib.Nat.{zero-add, mod-lt, div-lt_iff_lt-mul}
 use native.Mathlib.Omega.{arith}
 use lib.Arith.{digits_lt}
 use lib.IntN.{pos}
-use lib.ListN.{length, get_or, take, drop}
+use lib.ListN.{length, take, drop}
 use lib.Seq.{take_at, drop_at}
 use borrow.Author.Tests.{ltb-true}
 use Rattle.lists.specs.Tab.{tab, grid}
-use Rattle.lists.proofs.TabLaws.{length_tab, get_d_tab, tab_ext, tab_add, tab_row, row_end}
-use Rattle.lists.proofs.RangeLaws.{InRange}
+use Rattle.lists.proofs.TabLaws.{length_tab, tab_ext, tab_add, tab_row, row_end}
 use Rattle.integers.proofs.Sums.{total_ext}
 use Rattle.windows.specs.Set.{Stored, windows, start, size, weight, sample, distance_of}
 use Rattle.windows.specs.Store.{store16, store32}

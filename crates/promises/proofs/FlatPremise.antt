@@ -2,8 +2,7 @@
 use mathlib.Core.Path.{◌≡◌, refl, ap, ◌∙◌}
 use Prim.Native.Nat.{ℕ, ◌*◌, ◌^◌}
 use lib.Dec.{ltb}
-use lib.IntN.{pos, nat_abs}
-use lib.ListN.{get_or}
+use lib.IntN.{nat_abs}
 use Rattle.windows.specs.Set.{Stored, excess, excess_of, distance_of}
 use Rattle.excesses.proofs.RightLaws.{right_excess, judged_excesses}
 use Rattle.promises.specs.FlatFrames.{PremiseOffExcess}

@@ -1,19 +1,19 @@
 -- The count of infinite samples: what is proved beside the pass's definitions (`counted`, `counts_add_up`), with answers by number; and none below the limit.
 -- Assumes nothing.
-use mathlib.Core.Path.{◌≡◌, refl, sym, ap, ◌∙◌}
+use Rattle.std.specs.Prelude.{Ok, Err}
+use mathlib.Core.Path.{◌≡◌, refl, ap, ◌∙◌}
 use mathlib.Core.Bool.{Bool, true, false, cond}
 use mathlib.Core.List.{List}
 use Prim.Native.Nat.{ℕ, ◌+◌, ◌*◌, ◌/◌, ◌%◌, ◌<◌}
 use native.Mathlib.Nat.{zero-add, mod-lt, div-lt_iff_lt-mul}
 use native.Mathlib.Omega.{arith}
 use lib.Ieee.{Float, nan, lt}
-use lib.ListN.{length, get_or}
+use lib.ListN.{length}
 use Rattle.lists.specs.Tab.{grid}
 use Rattle.lists.proofs.TabLaws.{length_tab, get_d_tab}
 use Rattle.refusal.specs.declared.Refusal.TheVariants.{BadSide, DoesNotFit, SampleOutside}
 use Rattle.numbers.specs.Whole.{abs, narrow, is_infinite}
 use Rattle.windows.specs.Set.{Set, windows}
-use Rattle.vertical.specs.declared.PassedF32.TheVariants.{Done, Refused}
 use Rattle.vertical.specs.Frame.{frame, output, bad_size, bad_shape}
 use Rattle.vertical.specs.PassedF32.{infinite_in}
 use Rattle.vertical.specs.F32.{value_f32, infinities, bad_weights, bad_samples, passed_f32}
@@ -44,7 +44,7 @@ module _ (s : Set Float) (src : List Float) (row first count : ℕ)
       ∙ narrow_finite (sum_f32 s (frame nan src row) (k / count) (first + k % count)) (small (k / count) (k % count) ((div-lt_iff_lt-mul some).1 l) (mod-lt k some)))
 
 -- an answer is refused, which counts 0, or done
-by_case : (a b c d : Bool) (n : ℕ) → n ≡ 0 → infinite_in (cond a (Refused BadSide) (cond b (Refused DoesNotFit) (cond c (Refused SampleOutside) (cond d (Refused SampleOutside) (Done n))))) ≡ 0
+by_case : (a b c d : Bool) (n : ℕ) → n ≡ 0 → infinite_in (cond a (Err BadSide) (cond b (Err DoesNotFit) (cond c (Err SampleOutside) (cond d (Err SampleOutside) (Ok n))))) ≡ 0
 by_case true b c d n e = refl
 by_case false true c d n e = refl
 by_case false false true d n e = refl

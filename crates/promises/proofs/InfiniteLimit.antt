@@ -8,7 +8,7 @@ use native.Mathlib.Omega.{arith}
 use lib.Dec.{ltb}
 use lib.IntN.{ℤ}
 use lib.Pow.{pow_pos, pow_mono}
-use lib.Ieee.{Float, nan, inf, fin, binary32, binary64, size, units, up, down, lt, of_bits, round}
+use lib.Ieee.{Float, nan, inf, fin, binary32, size, units, up, down, lt, of_bits, round}
 use lib.Ieee.Digits.{size-le}
 use lib.Ieee.Exact.{HasValue, units_val}
 use lib.Ieee.Fits.{down_pos, round_is}

@@ -22,3 +22,4 @@ pub mod Refused
 pub mod Restated
 pub mod Table
 pub mod ReadBack
+pub mod Numbers

@@ -1,38 +1,33 @@
 -- The promises about both readers. The laws of the contract are proved in `reader`; here answers are by number, the writer is asked to write what was read, and the u16 pass to take
 -- it: the pass asks of a set what the judge of a stored set asks with the 32-bit store. Assumes nothing.
+use Rattle.std.specs.Prelude.{Result, Ok, Err}
 use mathlib.Core.Path.{◌≡◌, refl, sym, ap, ◌∙◌, subst}
-use mathlib.Core.Bool.{Bool, true, false, cond, ◌||◌}
+use mathlib.Core.Bool.{Bool, false, ◌||◌}
 use mathlib.Core.List.{List}
-use mathlib.Core.Logic.{inl, inr}
-use Prim.Native.Nat.{ℕ, ◌+◌, ◌*◌, ◌≤◌, ◌<◌}
+use Prim.Native.Nat.{ℕ, ◌+◌, ◌*◌, ◌≤◌}
 use native.Mathlib.Omega.{arith}
-use lib.Dec.{ltb, eqb}
 use lib.ListN.{length}
 use borrow.Author.Tests.{le-ltb, eq-eqb}
 use Rattle.lists.specs.Ranges.{outside, bad_sides_value}
-use Rattle.lists.proofs.BoolLaws.{or_left, or_right, ladder}
-use Rattle.lists.proofs.RangeLaws.{InRange, not_outside}
-use Rattle.refusal.specs.declared.Refusal.TheVariants.{BadSide, DoesNotFit, NoRoom}
+use Rattle.lists.proofs.BoolLaws.{or_left, or_right}
 use Rattle.text.specs.Text.{over}
 use Rattle.windows.specs.declared.Store.{Store}
 use Rattle.windows.specs.Set.{Stored, windows}
-use Rattle.windows.specs.Store.{store32, largest_precision, bad_precision}
+use Rattle.windows.specs.Store.{store32, bad_precision}
 use Rattle.windows.specs.Fit.{bad_set, bad_excesses, bad_stored}
-use Rattle.vertical.specs.declared.Passed.TheVariants as passed
 use Rattle.vertical.specs.Passed.{number_of as numberOfPassed}
 use Rattle.vertical.specs.U16.{passed_u16}
 use Rattle.vertical.proofs.Answers.{tests_u16}
-use Rattle.sheet.specs.declared.Sheet.TheVariants as sheet
-use Rattle.sheet.specs.Answer.{no_room, by_case, answer_of, written_of, number_of as numberOfSheet}
+use Rattle.sheet.specs.Answer.{by_case, number_of as numberOfSheet}
 use Rattle.sheet.specs.Text.{sheet_text_value}
 use Rattle.sheet_scan.specs.declared.Sizes.{Sizes}
 use Rattle.sheet_scan.specs.declared.StoreLines.{StoreLines}
-use Rattle.sheet_scan.specs.Language.{store_named_value, Taken, Accepted, Blank, Acceptable, Longest}
+use Rattle.sheet_scan.specs.Language.{store_named_value, Accepted, Blank, Acceptable, Longest}
 use Rattle.sheet_scan.proofs.BackLaws.{precise}
 use Rattle.sheet_scan.proofs.StoreLaws.{most_most}
-use Rattle.reader.specs.declared.Reading.{Reading}
-use Rattle.reader.specs.declared.Reading.TheVariants.{Loaded, TooFew, NotASheet}
-use Rattle.reader.specs.Reading.{Lists, Room, room_of, too_few_slots, Reads, number_of, byte_of}
+use Rattle.reader.specs.declared.Unread.{Unread}
+use Rattle.reader.specs.declared.Unread.TheVariants.{TooFew, NotASheet}
+use Rattle.reader.specs.Reading.{Room, room_of, too_few_slots, Reads, number_of, byte_of}
 use Rattle.reader.proofs.ReadingLaws as laws
 use Rattle.promises.specs.ReadBack.{held_in, sizes_in, Few, LoadedExactly, ReadOfWritten, WrittenOfRead, PlaceOfRefusal, PassTakes}
 use Rattle.promises.proofs.Accepted.{passed_done}
@@ -49,7 +44,7 @@ other_store s a b h precision =
     rw (or_left set (bad_precision a s.precision) (or_left shape (bad_excesses s) h), precision) (or_right shape (bad_excesses s) h)
 
 -- a pass whose tests all fail
-passes : (s : Stored) (row first count : ℕ) → bad_sides_value s.set.layout.lines (windows s.set.layout) ≡ false → bad_stored s store32 ≡ false → 1 ≤ row → row ≤ 32768 → first + count ≤ row → passed_u16 s (s.set.layout.lines * row) row first count (windows s.set.layout * count) ≡ passed.Done
+passes : (s : Stored) (row first count : ℕ) → bad_sides_value s.set.layout.lines (windows s.set.layout) ≡ false → bad_stored s store32 ≡ false → 1 ≤ row → row ≤ 32768 → first + count ≤ row → passed_u16 s (s.set.layout.lines * row) row first count (windows s.set.layout * count) ≡ Ok tt
 unfolding passed_u16
 passes s row first count sides stored some few inside =
     let l = s.set.layout in
@@ -59,21 +54,21 @@ module _ (wide : Bool) where
   pub read_back_exactly : LoadedExactly wide
   read_back_exactly text lent r left reads = (done r reads, to_done r reads, few r reads, λ t. ap number_of (laws.seven_exactly wide text lent r left reads t))
     where
-      done : (r : Reading) → Reads wide text lent r left → number_of r ≡ 0 → Acceptable wide text × (Few text lent → ⊥)
-      done (Loaded v w) l h = (laws.loaded_acceptable wide text lent v w left l, λ t. loaded_not_seven v w (laws.seven_exactly wide text lent (Loaded v w) left l t))
+      done : (r : Result (Sizes × StoreLines) Unread) → Reads wide text lent r left → number_of r ≡ 0 → Acceptable wide text × (Few text lent → ⊥)
+      done (Ok (v, w)) l h = (laws.loaded_acceptable wide text lent v w left l, λ t. loaded_not_seven v w (laws.seven_exactly wide text lent (Ok (v, w)) left l t))
         where
-          loaded_not_seven : (v : Sizes) (w : StoreLines) → Loaded v w ≡ TooFew → ⊥
+          loaded_not_seven : (v : Sizes) (w : StoreLines) → ◌≡◌ {A = Result (Sizes × StoreLines) Unread} (Ok (v, w)) (Err TooFew) → ⊥
           loaded_not_seven v w e = omega (arith, ap number_of e)
-      done TooFew t h = absurd (omega (arith, h))
-      done (NotASheet n) f h = absurd (omega (arith, h))
+      done (Err TooFew) t h = absurd (omega (arith, h))
+      done (Err (NotASheet n)) f h = absurd (omega (arith, h))
 
-      to_done : (r : Reading) → Reads wide text lent r left → Acceptable wide text → (Few text lent → ⊥) → number_of r ≡ 0
+      to_done : (r : Result (Sizes × StoreLines) Unread) → Reads wide text lent r left → Acceptable wide text → (Few text lent → ⊥) → number_of r ≡ 0
       to_done r l a seven = let d = laws.acceptable_loaded wide text lent r left l a seven in ap number_of d.2
 
-      few : (r : Reading) → Reads wide text lent r left → number_of r ≡ 7 → Few text lent
-      few (Loaded v w) l h = absurd (omega (arith, h))
-      few TooFew t h = t.0
-      few (NotASheet n) f h = absurd (omega (arith, h))
+      few : (r : Result (Sizes × StoreLines) Unread) → Reads wide text lent r left → number_of r ≡ 7 → Few text lent
+      few (Ok (v, w)) l h = absurd (omega (arith, h))
+      few (Err TooFew) t h = t.0
+      few (Err (NotASheet n)) f h = absurd (omega (arith, h))
 
   pub read_back_of_written : ReadOfWritten wide
   read_back_of_written kind bits s lent r left a blank slots starts sizes excesses reads =
@@ -98,7 +93,7 @@ module _ (wide : Bool) where
         same,
         λ old room.
             let fits : length t ≤ length old = rw same room in (
-              ap numberOfSheet (by_done w.bits s good (length t) (length old) fits sheet.Refused (sheet.Written (length t))),
+              ap numberOfSheet (by_done w.bits s good (length t) (length old) fits Err (Ok (length t))),
               by_done w.bits s good (length t) (length old) fits (λ refusal. old) (over t old) ∙ ap (λ (u : List ℕ). over u old) same,
             ),
       )
@@ -106,15 +101,15 @@ module _ (wide : Bool) where
   pub place_of_refusal : PlaceOfRefusal wide
   place_of_refusal text lent r left reads = (place r reads, kept r reads)
     where
-      place : (r : Reading) → Reads wide text lent r left → number_of r ≡ 13 → Longest wide text (byte_of r) × (Acceptable wide text → ⊥)
-      place (Loaded v w) l h = absurd (omega (arith, h))
-      place TooFew t h = absurd (omega (arith, h))
-      place (NotASheet n) f h = (f.0.byte, f.0.wrong)
+      place : (r : Result (Sizes × StoreLines) Unread) → Reads wide text lent r left → number_of r ≡ 13 → Longest wide text (byte_of r) × (Acceptable wide text → ⊥)
+      place (Ok (v, w)) l h = absurd (omega (arith, h))
+      place (Err TooFew) t h = absurd (omega (arith, h))
+      place (Err (NotASheet n)) f h = (f.0.byte, f.0.wrong)
 
-      kept : (r : Reading) → Reads wide text lent r left → (number_of r ≡ 0 → ⊥) → left ≡ lent
-      kept (Loaded v w) l h = absurd (h refl)
-      kept TooFew t h = t.1
-      kept (NotASheet n) f h = f.1
+      kept : (r : Result (Sizes × StoreLines) Unread) → Reads wide text lent r left → (number_of r ≡ 0 → ⊥) → left ≡ lent
+      kept (Ok (v, w)) l h = absurd (h refl)
+      kept (Err TooFew) t h = t.1
+      kept (Err (NotASheet n)) f h = f.1
 
   -- the pass asks for the precision of the 32-bit store, and each store's is one of those
   precise_32 : (bits : ℕ) (s : Stored) → Accepted wide bits s → bad_precision store32 s.precision ≡ false

@@ -1,16 +1,16 @@
 -- "Box keeps flat frames."
 -- Every Box request that the builder and the 32-bit normaliser accept, adapting or not, meets the premise of `FlatFrame` at every window; so a flat frame comes
 -- out of the u16 pass unchanged. Nothing is asked of the request but that it was accepted. Statements only. Assumes nothing.
-use Rattle.std.specs.Prelude.{◌≡◌, List, ℕ, ◌*◌, ◌≤◌, ◌<◌, ℤ, Float, length, take}
+use Rattle.std.specs.Prelude.{◌≡◌, List, ℕ, ◌*◌, ◌≤◌, ◌<◌, ℤ, Float, length, take, Result}
 use Rattle.lists.specs.Tab.{tab}
 use Rattle.filters.specs.declared.FilterType.TheVariants.{Box}
 use Rattle.windows.specs.Set.{layout_of, Set, set_of, Stored}
 use Rattle.windows.specs.Store.{store32}
 use Rattle.plans.specs.declared.Request.{Request}
-use Rattle.coefficients.specs.declared.Built.{Built}
+use Rattle.coefficients.specs.declared.NotBuilt.{NotBuilt}
 use Rattle.coefficients.specs.Answer.{number_of as numberOfBuilt, window_of}
 use Rattle.coefficients.specs.Request.{built_of, weights_of, starts_of, sizes_of}
-use Rattle.normalizer.specs.declared.Normalized.{Normalized}
+use Rattle.refusal.specs.declared.Refusal.{Refusal}
 use Rattle.normalizer.specs.Answer.{number_of as numberOfNormalized}
 use Rattle.normalizer.specs.Left.{answer_for, left_set}
 use Rattle.vertical.specs.Passed.{number_of}
@@ -26,13 +26,13 @@ built_set q lines ws ss zs w =
 
 -- a request, what is lent to the builder and to the 32-bit normaliser, and what they answer
 module _ (q : Request) (lines : ℕ) (ws : List Float) (ss zs : List ℕ) (out excesses : List ℤ) where
-  abbrev pub built : Built
+  abbrev pub built : Result ℕ NotBuilt
   built = built_of q (length ws) (length ss) (length zs)
 
   abbrev pub fresh : Set Float
   fresh = built_set q lines ws ss zs (window_of built)
 
-  abbrev pub normal : Normalized
+  abbrev pub normal : Result ℕ Refusal
   normal = answer_for store32 fresh out excesses
 
   -- Box was asked for, and both answered 0

@@ -1,14 +1,14 @@
 -- "A flat frame comes out unchanged."
 -- Where the weights of a window add up to K, and 2 M times the distance of K from 2^P is under 2^P, a frame that holds one value v up to M everywhere gives v there.
 -- M is the largest sample: for 16-bit samples 2 M is 131070, for 8-bit ones 510. The premise is the customer's. Statements only. Assumes nothing.
-use Rattle.std.specs.Prelude.{◌≡◌, true, false, List, ℕ, ◌*◌, ◌^◌, ◌≤◌, ◌<◌, ltb, ℤ, pos, nat_abs, length, get_or}
+use Rattle.std.specs.Prelude.{◌≡◌, true, false, List, ℕ, ◌*◌, ◌^◌, ◌≤◌, ◌<◌, ltb, ℤ, pos, nat_abs, length, get_or, Result, ⊤}
 use Rattle.lists.specs.Tab.{tab}
 use Rattle.integers.specs.Sums.{sum, distance, value}
 use Rattle.windows.specs.declared.Store.{Store}
 use Rattle.windows.specs.Set.{Stored, windows}
 use Rattle.windows.specs.Fit.{bad_stored}
 use Rattle.vertical.specs.Frame.{row_of}
-use Rattle.vertical.specs.declared.Passed.{Passed}
+use Rattle.refusal.specs.declared.Refusal.{Refusal}
 use Rattle.vertical.specs.Passed.{number_of}
 use Rattle.vertical.specs.U16.{keeps_flat, passed_u16, written_u16}
 use Rattle.vertical_u8.specs.U8.{passed_u8, written_u8}
@@ -36,7 +36,7 @@ abbrev pub Flat : ℕ → List ℕ → Type 0
 Flat v src = (x : ℕ) → x < length src → get_or src x 0 ≡ v
 
 -- of a pass over integers with samples up to M, and the premise of a window
-module _ (M : ℕ) (Near : Stored → ℕ → Type 0) (passed : Stored → ℕ → ℕ → ℕ → ℕ → ℕ → Passed) (written : Stored → List ℕ → ℕ → ℕ → ℕ → List ℕ → List ℕ) where
+module _ (M : ℕ) (Near : Stored → ℕ → Type 0) (passed : Stored → ℕ → ℕ → ℕ → ℕ → ℕ → Result ⊤ Refusal) (written : Stored → List ℕ → ℕ → ℕ → ℕ → List ℕ → List ℕ) where
   -- row i of what it writes, wherever it does not refuse: v in every place where window i meets the premise, whatever the other windows do
   abbrev pub FlatRowOf : Type 0
   FlatRowOf =

@@ -1,7 +1,7 @@
 -- "It accepts exactly the texts the writer can write for a set that the u16 pass would take. Reading what was written gives the same set; writing what was read gives the same
 -- bytes." Of both readers: `wide` is true for `read_sheet` and false for `read_sheet16`; r and left are an answer and lists that meet the reader's contract. Statements only.
 -- Assumes nothing.
-use Rattle.std.specs.Prelude.{◌≡◌, Bool, false, List, ℕ, ◌+◌, ◌*◌, ◌≤◌, ◌<◌, pos, length, take}
+use Rattle.std.specs.Prelude.{◌≡◌, Bool, false, List, ℕ, ◌+◌, ◌*◌, ◌≤◌, ◌<◌, pos, length, take, Result, Ok}
 use Rattle.text.specs.Text.{over}
 use Rattle.filters.specs.declared.FilterType.{FilterType}
 use Rattle.windows.specs.Set.{Stored, layout_of, set_of, stored_of, windows, size, weight}
@@ -14,8 +14,7 @@ use Rattle.scan.specs.Number.{Inside}
 use Rattle.sheet_scan.specs.declared.Sizes.{Sizes}
 use Rattle.sheet_scan.specs.declared.StoreLines.{StoreLines}
 use Rattle.sheet_scan.specs.Language.{store_named_value, Taken, limit_of_value, Accepted, Blank, Acceptable, Longest}
-use Rattle.reader.specs.declared.Reading.{Reading}
-use Rattle.reader.specs.declared.Reading.TheVariants.{Loaded}
+use Rattle.reader.specs.declared.Unread.{Unread}
 use Rattle.reader.specs.Reading.{Lists, lists, room_of, TooLittle, Reads, number_of, byte_of}
 
 -- the set that the lists hold, as the answer beside them says
@@ -44,28 +43,28 @@ module _ (wide : Bool) where
   -- a text is loaded exactly when it is acceptable, unless No. 7 is due, and No. 7 is answered exactly when it is due
   abbrev pub LoadedExactly : Type 0
   LoadedExactly =
-      (text : List ℕ) (lent : Lists) (r : Reading) (left : Lists) → Reads wide text lent r left
+      (text : List ℕ) (lent : Lists) (r : Result (Sizes × StoreLines) Unread) (left : Lists) → Reads wide text lent r left
       → (number_of r ≡ 0 → Acceptable wide text × (Few text lent → ⊥)) × (Acceptable wide text → (Few text lent → ⊥) → number_of r ≡ 0)
       × (number_of r ≡ 7 → Few text lent) × (Few text lent → number_of r ≡ 7)
 
   -- reading what was written, with enough lent, gives the same set, where its slots past the windows' sizes are 0
   abbrev pub ReadOfWritten : Type 0
   ReadOfWritten =
-      (kind : FilterType) (bits : ℕ) (s : Stored) (lent : Lists) (r : Reading) (left : Lists) → Accepted wide bits s → Blank s
+      (kind : FilterType) (bits : ℕ) (s : Stored) (lent : Lists) (r : Result (Sizes × StoreLines) Unread) (left : Lists) → Accepted wide bits s → Blank s
       → windows s.set.layout * s.set.layout.window_size_value ≤ length lent.weights → windows s.set.layout ≤ length lent.starts → windows s.set.layout ≤ length lent.sizes → windows s.set.layout ≤ length lent.excesses
-      → Reads wide (sheet_text_value kind (store_named_value bits) s) lent r left → (r ≡ Loaded (sizes_in kind s) (store_in bits s)) × (left ≡ left_in s lent)
+      → Reads wide (sheet_text_value kind (store_named_value bits) s) lent r left → (r ≡ Ok ((sizes_in kind s), (store_in bits s))) × (left ≡ left_in s lent)
 
   -- what was read is an accepted set, 0 in the slots past the windows' sizes, whose sheet the text is; writing it again, with room, gives the text
   abbrev pub WrittenOfRead : Type 0
   WrittenOfRead =
-      (text : List ℕ) (lent : Lists) (v : Sizes) (w : StoreLines) (left : Lists) → Reads wide text lent (Loaded v w) left
+      (text : List ℕ) (lent : Lists) (v : Sizes) (w : StoreLines) (left : Lists) → Reads wide text lent (Ok (v, w)) left
       → Accepted wide w.bits (held_in v w left) × Blank (held_in v w left) × (sheet_text_value v.kind (store_named_value w.bits) (held_in v w left) ≡ text)
       × ((old : List ℕ) → length text ≤ length old → (numberOfSheet (answer_of v.kind (store_named_value w.bits) (held_in v w left) (length old)) ≡ 0) × (written_of v.kind (store_named_value w.bits) (held_in v w left) old ≡ over text old))
 
   -- the place of No. 13: so many bytes begin an acceptable text, and no more of them do; and a refusal leaves the lists as they were
   abbrev pub PlaceOfRefusal : Type 0
   PlaceOfRefusal =
-      (text : List ℕ) (lent : Lists) (r : Reading) (left : Lists) → Reads wide text lent r left
+      (text : List ℕ) (lent : Lists) (r : Result (Sizes × StoreLines) Unread) (left : Lists) → Reads wide text lent r left
       → (number_of r ≡ 13 → Longest wide text (byte_of r) × (Acceptable wide text → ⊥)) × ((number_of r ≡ 0 → ⊥) → left ≡ lent)
 
   -- an accepted set is one that the u16 pass takes with every frame, columns and output that fit, its precision and weights in use those of its store; and each such set is accepted

@@ -1,7 +1,7 @@
 -- "A refused call leaves what it was lent as it was."
 -- For every function that is lent a list to write: refused with a number other than 8, each lent list is as it was. No. 8, which the builder alone gives, leaves 0 in
 -- the asked slots, starts and sizes, and the rest as it was. Answers are spoken of by their number. Statements only. Assumes nothing.
-use Rattle.std.specs.Prelude.{◌≡◌, List, ℕ, ℤ, Float, length}
+use Rattle.std.specs.Prelude.{◌≡◌, List, ℕ, ℤ, Float, length, Ok}
 use Rattle.lists.specs.Tab.{front}
 use Rattle.pixel_lists.specs.Lists.{applied_to, number_of as numberOfApplied}
 use Rattle.alpha.specs.Lists.{multiplied_list, divided_list}
@@ -11,7 +11,6 @@ use Rattle.windows.specs.declared.Store.{Store}
 use Rattle.windows.specs.Set.{Set, Stored}
 use Rattle.plans.specs.declared.Request.{Request}
 use Rattle.plans.specs.declared.Plan.{Plan}
-use Rattle.plans.specs.declared.Planned.TheVariants.{Ready}
 use Rattle.coefficients.specs.Answer.{number_of as numberOfBuilt}
 use Rattle.plan_windows.specs.Lines.{slots, zero_weight, zero_line}
 use Rattle.plans.specs.Plan.{plan_of}
@@ -48,7 +47,7 @@ module _ (q : Request) (ws : List Float) (ss zs : List ℕ) where
   -- the plan says how many were asked for: output side x window size slots, and as many starts and sizes as the output side
   pub record Zeroed : Type 0 where
     pub plan : Plan
-    pub planned : plan_of q ≡ Ready plan
+    pub planned : plan_of q ≡ Ok plan
     pub weights : weights_of q (length ws) (length ss) (length zs) ws ≡ front (slots plan) zero_weight ws
     pub starts : starts_of q (length ws) (length ss) (length zs) ss ≡ front plan.output zero_line ss
     pub sizes : sizes_of q (length ws) (length ss) (length zs) zs ≡ front plan.output zero_line zs

@@ -1,13 +1,13 @@
 -- "An offer is judged, and every flat frame comes out unchanged."
 -- What the judge of an offer and the offerer promise each other (each statement in specs/Agreement.antt of repairs, over any store), and what the passes do with the set that an
 -- accepted offer leaves. No premise on the weights is left there: the acceptance is it. Statements only. Assumes nothing.
-use Rattle.std.specs.Prelude.{◌≡◌, List, ℕ, ◌*◌, ◌≤◌, length}
+use Rattle.std.specs.Prelude.{◌≡◌, List, ℕ, ◌*◌, ◌≤◌, length, Result, ⊤}
 use Rattle.lists.specs.Tab.{tab}
 use Rattle.windows.specs.declared.Store.{Store}
 use Rattle.windows.specs.Set.{Stored, windows}
 use Rattle.windows.specs.Store.{store16}
 use Rattle.windows.specs.Fit.{bad_stored}
-use Rattle.vertical.specs.declared.Passed.{Passed}
+use Rattle.refusal.specs.declared.Refusal.{Refusal}
 use Rattle.vertical.specs.Passed.{number_of}
 use Rattle.vertical.specs.U16.{passed_u16, written_u16}
 use Rattle.vertical_u8.specs.U8.{passed_u8, written_u8}
@@ -27,7 +27,7 @@ pub record RepairsAgree (store : Store) : Type 0 where
   pub least_changed : LeastChanged store
 
 -- a pass with samples up to M, over the set that an accepted offer leaves, wherever it does not refuse: v in every place
-module _ (store : Store) (M : ℕ) (passed : Stored → ℕ → ℕ → ℕ → ℕ → ℕ → Passed) (written : Stored → List ℕ → ℕ → ℕ → ℕ → List ℕ → List ℕ) where
+module _ (store : Store) (M : ℕ) (passed : Stored → ℕ → ℕ → ℕ → ℕ → ℕ → Result ⊤ Refusal) (written : Stored → List ℕ → ℕ → ℕ → ℕ → List ℕ → List ℕ) where
   abbrev pub FlatRepairedOf : Type 0
   FlatRepairedOf =
       (s : Stored) (o : Offer) (src : List ℕ) (row first count : ℕ) (old : List ℕ) (v : ℕ)

@@ -2,11 +2,11 @@
 -- Of the rounded value before the clip: at one window and column, for any weights of either sign, any samples, any number of lines, any precision from 1 on; and of the
 -- lists that the u16 pass and the u8 pass take.
 -- The clip is left out because it would make the claim false: two bright values add up to more than the largest sample. Statements only. Assumes nothing.
-use Rattle.std.specs.Prelude.{◌≡◌, List, ℕ, ◌+◌, ◌≤◌, ◌<◌, ℤ, pos, ◌+ℤ◌, length, get_or}
+use Rattle.std.specs.Prelude.{◌≡◌, List, ℕ, ◌+◌, ◌≤◌, ◌<◌, ℤ, pos, ◌+ℤ◌, length, get_or, Result, ⊤}
 use Rattle.integers.specs.Sums.{rounded, distance}
 use Rattle.windows.specs.Set.{Stored, windows, size, weight, sample}
 use Rattle.vertical.specs.Frame.{frame}
-use Rattle.vertical.specs.declared.Passed.{Passed}
+use Rattle.refusal.specs.declared.Refusal.{Refusal}
 use Rattle.vertical.specs.Passed.{number_of}
 use Rattle.vertical.specs.U16.{passed_u16}
 use Rattle.vertical_u8.specs.U8.{passed_u8}
@@ -28,7 +28,7 @@ pub record Added (a b c : List ℕ) : Type 0 where
   pub each : (x : ℕ) → x < length c → get_or c x 0 ≡ get_or a x 0 + get_or b x 0
 
 -- the same of the lists that a pass over integers takes, for any set that it accepts, at every window and column that it writes
-abbrev pub ListsWithinOne : (Stored → ℕ → ℕ → ℕ → ℕ → ℕ → Passed) → Type 0
+abbrev pub ListsWithinOne : (Stored → ℕ → ℕ → ℕ → ℕ → ℕ → Result ⊤ Refusal) → Type 0
 ListsWithinOne passed =
     (s : Stored) (a b c : List ℕ) (row first count room : ℕ) → number_of (passed s (length c) row first count room) ≡ 0 → Added a b c
     → (i j : ℕ) → i < windows s.set.layout → j < count

@@ -5,7 +5,7 @@
 
 mod told;
 
-use reader::Reading;
+use reader::Unread;
 
 // Answers the program's one argument, a file's name. The text stands here, apart from what looks at it.
 pub fn run(rt: HostRuntime) {
@@ -14,12 +14,9 @@ pub fn run(rt: HostRuntime) {
 }
 
 // Reads the file, and what it has.
-fn answer(rt: HostRuntime, text: &mut [u8]) {
-    let a: usize = 0;
-    let got = sheet_files::text(rt, text);
-    let n = got.n;
-    if got.whole {
-        judge(rt, &text[a..n]);
+fn answer(rt: HostRuntime, room: &mut [u8]) {
+    if let Some(text) = sheet_files::text(rt, room) {
+        judge(rt, text);
     }
 }
 
@@ -50,8 +47,8 @@ fn read(
 ) {
     let answer = reader::read_sheet(text, weights, starts, sizes, excesses);
     match answer {
-        Reading::Loaded(head, store) => told::sheet(rt, head, store, starts, sizes, excesses),
-        Reading::TooFew => sheet_files::too_large(rt),
-        Reading::NotASheet(byte) => sheet_files::refused(rt, text, byte),
+        Ok((head, store)) => told::sheet(rt, head, store, starts, sizes, excesses),
+        Err(Unread::TooFew) => sheet_files::too_large(rt),
+        Err(Unread::NotASheet(byte)) => sheet_files::refused(rt, text, byte),
     }
 }

@@ -1,8 +1,7 @@
 // What a sheet says, in words: its head, then a line for each window.
-use answer_lines::size;
 use filters::FilterType;
+use program_streams::out;
 use sheet::keys;
-use sheet_files::streams::{out, out_number};
 use sheet_scan::{Sizes, StoreLines};
 
 // The whole of it.
@@ -14,33 +13,21 @@ pub(crate) fn sheet(
     sizes: &[u32],
     excesses: &[i64],
 ) {
-    let kind = head.kind;
-    out(rt, b"filter ");
-    name(rt, kind);
-    said(rt, b", camera lines ", head.lines);
-    said(rt, b", display lines ", head.windows);
-    said(rt, b"\nwindow size ", head.window_size);
-    said(rt, b", store ", store.bits);
-    said(
-        rt,
-        b" bits; a weight stands for itself divided by 2^",
-        store.precision,
+    let precision = store.precision;
+    let _ = print!(rt; "filter ");
+    name(rt, head.kind);
+    let _ = println!(rt;
+        ", camera lines {}, display lines {}",
+        head.lines, head.windows
     );
-    out(rt, b"\n");
-    windows(
-        rt,
-        head.windows as usize,
-        store.precision,
-        starts,
-        sizes,
-        excesses,
+    let _ = println!(rt;
+        "window size {}, store {} bits; a weight stands for itself divided by 2^{precision}",
+        head.window_size, store.bits
     );
-}
-
-// Words and a number.
-fn said(rt: HostRuntime, words: &[u8], n: u32) {
-    out(rt, words);
-    out_number(rt, n as u64);
+    let windows = starts.iter().zip(sizes).zip(excesses);
+    for (i, ((start, size), excess)) in windows.take(head.windows as usize).enumerate() {
+        window(rt, i, precision, *start, *size, *excess);
+    }
 }
 
 // A filter's name.
@@ -53,63 +40,16 @@ fn name(rt: HostRuntime, kind: FilterType) {
     }
 }
 
-// A line for each of so many windows.
-fn windows(
-    rt: HostRuntime,
-    count: usize,
-    precision: u32,
-    starts: &[u32],
-    sizes: &[u32],
-    excesses: &[i64],
-) {
-    let mut i: usize = 0;
-    while i < count {
-        if starts.len() <= i {
-            return;
-        }
-        if sizes.len() <= i {
-            return;
-        }
-        if excesses.len() <= i {
-            return;
-        }
-        window(rt, i, precision, starts[i], sizes[i], excesses[i]);
-        i += 1;
-    }
-}
-
-// The line of window i.
+// The line of window i: its camera lines, and what the total of its weights is more or less than 2^precision.
 fn window(rt: HostRuntime, i: usize, precision: u32, start: u32, size: u32, excess: i64) {
-    out(rt, b"display line ");
-    out_number(rt, i as u64);
-    out(rt, b": camera lines ");
-    out_number(rt, start as u64);
-    out(rt, b" to ");
-    out_number(rt, last(start, size));
-    out(rt, b", weights add up to 2^");
-    out_number(rt, precision as u64);
-    beside(rt, excess);
-    out(rt, b"\n");
-}
-
-// The last line of a window.
-fn last(start: u32, size: u32) -> u64 {
-    let e = start as u64 + size as u64;
-    if e == 0 {
-        return 0;
-    }
-    e - 1
-}
-
-// What the total is more or less than 2^precision.
-fn beside(rt: HostRuntime, excess: i64) {
+    let last = (start as u64 + size as u64).saturating_sub(1);
+    let _ = print!(rt;
+        "display line {i}: camera lines {start} to {last}, weights add up to 2^{precision}"
+    );
     if excess < 0 {
-        out(rt, b" - ");
+        let _ = print!(rt; " - {}", excess.unsigned_abs());
+    } else if 0 < excess {
+        let _ = print!(rt; " + {excess}");
     }
-    if 0 < excess {
-        out(rt, b" + ");
-    }
-    if excess != 0 {
-        out_number(rt, size(excess));
-    }
+    let _ = println!(rt);
 }

@@ -1,3 +1,4 @@
 pub mod ReadLaws
 pub mod ReadingLaws
 pub mod Sure
+pub mod MapLaws

@@ -1,4 +1,5 @@
 -- The ways of the readers, over the text and what is lent: how a text is judged, and the lists that are left. Cited by `judge` and both readers. Assumes nothing.
+use Rattle.std.specs.Prelude.{Err}
 use mathlib.Core.Path.{◌≡◌, refl, sym, ap, ◌∙◌, subst}
 use mathlib.Core.Bool.{Bool, true, false, cond, ◌||◌}
 use mathlib.Core.List.{List, ◌++◌, append-nil}
@@ -24,8 +25,8 @@ use Rattle.sheet_scan.specs.Language.{Taken, limit_of_value, sheets}
 use Rattle.sheet_scan.specs.Lines.{Row, size_lines, store_lines, window_line}
 use Rattle.sheet_scan.specs.Rows.{start_at, size_at, slot_at, excess_at}
 use Rattle.sheet_scan.specs.Whole.{lines_of, excess_line, body_lines, rest_lines}
-use Rattle.reader.specs.declared.Reading.{Reading}
-use Rattle.reader.specs.declared.Reading.TheVariants.{Loaded, TooFew, NotASheet}
+use Rattle.reader.specs.declared.Unread.{Unread}
+use Rattle.reader.specs.declared.Unread.TheVariants.{TooFew, NotASheet}
 use Rattle.reader.specs.Reading.{Lists, Room, room_of, too_few_slots, TooLittle, NotOfThisForm, NotRead, Readable, Loads, Reads}
 use Rattle.sheet_scan.proofs.HeadLaws.{apart_sizes}
 use Rattle.sheet_scan.proofs.WholeLaws.{whole_of_value, outs_is, sheet_no_sizes, rest_no_excess, sheet_no_rest, sheet_found}
@@ -135,8 +136,7 @@ module _ (wide : Bool) (text : List ℕ) (room : Room) where
           }
 
 -- a text that is not read leaves the lists as they were
-pub unread : (wide : Bool) (text : List ℕ) (lent : Lists) (r : Reading) → NotRead wide text (room_of lent) r → Reads wide text lent r lent
-unread wide text lent (Loaded v w) h = absurd h
+pub unread : (wide : Bool) (text : List ℕ) (lent : Lists) (r : Unread) → NotRead wide text (room_of lent) r → Reads wide text lent (Err r) lent
 unread wide text lent TooFew h = (h, refl)
 unread wide text lent (NotASheet n) h = (h, refl)
 

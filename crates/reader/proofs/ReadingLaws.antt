@@ -1,5 +1,6 @@
 -- What the contract `Reads` says of any answer: what was written is read, what was read is written, what is loaded and when No. 7 is due; and that it decides the answer and
 -- the lists. Cited by `Sure` and by the promises. Assumes nothing.
+use Rattle.std.specs.Prelude.{Result, Ok, Err}
 use mathlib.Core.Path.{◌≡◌, refl, sym, ap, ◌∙◌, subst}
 use mathlib.Core.Bool.{Bool, true, false}
 use mathlib.Core.List.{List, [], ◌++◌}
@@ -24,8 +25,8 @@ use Rattle.sheet_scan.proofs.BackLaws.{fit}
 use Rattle.sheet_scan.proofs.HeadLaws.{apart_sizes}
 use Rattle.sheet_scan.proofs.WholeLaws.{sizes_of, store_of, parts_good, parts_text, apart_sheets}
 use Rattle.sheet_scan.proofs.LanguageLaws.{one_byte}
-use Rattle.reader.specs.declared.Reading.{Reading}
-use Rattle.reader.specs.declared.Reading.TheVariants.{Loaded, TooFew, NotASheet}
+use Rattle.reader.specs.declared.Unread.{Unread}
+use Rattle.reader.specs.declared.Unread.TheVariants.{TooFew, NotASheet}
 use Rattle.reader.specs.Reading.{Lists, lists, room_of, too_few_slots, TooLittle, Loads, Reads}
 
 -- the same of lists
@@ -97,53 +98,53 @@ module _ (wide : Bool) where
         λ i. stored_of (set_of (layout_of (l.lines i) (l.window_size_value i) (e-s i) (e-z i)) (e-w i)) (l.precision i) (e-e i)
 
   -- READ OF WRITTEN: reading a sheet that was written of an accepted set, whose slots past the windows' sizes are 0, with enough lent, loads that set
-  pub read_of_written : (x : Whole) (lent : Lists) (r : Reading) (left : Lists) → Accepted wide x.bits x.set → Blank x.set → short (sizes_of x) lent ≡ false → Reads wide ((sheets wide).text x) lent r left → (r ≡ Loaded (sizes_of x) (store_of x)) × (left ≡ left_by x.set lent)
-  read_of_written x lent (Loaded v w) left a blank enough l =
+  pub read_of_written : (x : Whole) (lent : Lists) (r : Result (Sizes × StoreLines) Unread) (left : Lists) → Accepted wide x.bits x.set → Blank x.set → short (sizes_of x) lent ≡ false → Reads wide ((sheets wide).text x) lent r left → (r ≡ Ok ((sizes_of x), (store_of x))) × (left ≡ left_by x.set lent)
+  read_of_written x lent (Ok (v, w)) left a blank enough l =
       let same = same_whole l x a blank refl in (
-        ap {B = Reading} (λ (u : Sizes). Loaded u w) (says_sizes l ∙ ap sizes_of same) ∙ ap {B = Reading} (λ (u : StoreLines). Loaded (sizes_of x) u) (says_store l ∙ ap store_of same),
+        ap {B = Result (Sizes × StoreLines) Unread} (λ (u : Sizes). Ok (u, w)) (says_sizes l ∙ ap sizes_of same) ∙ ap {B = Result (Sizes × StoreLines) Unread} (λ (u : StoreLines). Ok (sizes_of x, u)) (says_store l ∙ ap store_of same),
         left_is l ∙ ap (λ (y : Whole). left_by y.set lent) same,
       )
-  read_of_written x lent TooFew left a blank enough t = never (sym (too_little x lent a t.0) ∙ enough)
-  read_of_written x lent (NotASheet n) left a blank enough f = absurd (f.0.wrong (record { kind = x.kind; bits = x.bits; set = x.set; accepted = a; is = refl }))
+  read_of_written x lent (Err TooFew) left a blank enough t = never (sym (too_little x lent a t.0) ∙ enough)
+  read_of_written x lent (Err (NotASheet n)) left a blank enough f = absurd (f.0.wrong (record { kind = x.kind; bits = x.bits; set = x.set; accepted = a; is = refl }))
 
   module _ (text : List ℕ) (lent : Lists) where
     -- WRITTEN OF READ: the sheet of the set that the lists hold is the text that was read
-    pub written_of_read : (v : Sizes) (w : StoreLines) (left : Lists) → Reads wide text lent (Loaded v w) left → sheet_text_value v.kind (store_named_value w.bits) (held_set v w left) ≡ text
+    pub written_of_read : (v : Sizes) (w : StoreLines) (left : Lists) → Reads wide text lent (Ok (v, w)) left → sheet_text_value v.kind (store_named_value w.bits) (held_set v w left) ≡ text
     written_of_read v w left l = ap (sheet_text_value v.kind (store_named_value w.bits)) (set_held l) ∙ sym l.is
 
     -- WHAT IS LEFT PASSES THE JUDGE of a stored set: the set that the lists hold is neither of No. 1 nor of No. 10
-    pub left_fits : (v : Sizes) (w : StoreLines) (left : Lists) → Reads wide text lent (Loaded v w) left → unfit (held_set v w left) (store_named_value w.bits) ≡ false
+    pub left_fits : (v : Sizes) (w : StoreLines) (left : Lists) → Reads wide text lent (Ok (v, w)) left → unfit (held_set v w left) (store_named_value w.bits) ≡ false
     left_fits v w left l =
         let own : unfit l.set (store_named_value w.bits) ≡ false = rw l.accepted.sides l.accepted.fits in
         subst (λ (s : Stored). unfit s (store_named_value w.bits) ≡ false) (sym (set_held l)) own
 
     -- LOADED EXACTLY WHEN ACCEPTABLE, where No. 7 is not due
-    pub loaded_acceptable : (v : Sizes) (w : StoreLines) (left : Lists) → Reads wide text lent (Loaded v w) left → Acceptable wide text
+    pub loaded_acceptable : (v : Sizes) (w : StoreLines) (left : Lists) → Reads wide text lent (Ok (v, w)) left → Acceptable wide text
     loaded_acceptable v w left l = is_acceptable l
 
-    pub acceptable_loaded : (r : Reading) (left : Lists) → Reads wide text lent r left → Acceptable wide text → (Little text lent → ⊥) → (v : Sizes) × (w : StoreLines) × (r ≡ Loaded v w)
-    acceptable_loaded (Loaded v w) left l a seven = (v, w, refl)
-    acceptable_loaded TooFew left t a seven = absurd (seven t.0)
-    acceptable_loaded (NotASheet n) left f a seven = absurd (f.0.wrong a)
+    pub acceptable_loaded : (r : Result (Sizes × StoreLines) Unread) (left : Lists) → Reads wide text lent r left → Acceptable wide text → (Little text lent → ⊥) → (v : Sizes) × (w : StoreLines) × (r ≡ Ok (v, w))
+    acceptable_loaded (Ok (v, w)) left l a seven = (v, w, refl)
+    acceptable_loaded (Err TooFew) left t a seven = absurd (seven t.0)
+    acceptable_loaded (Err (NotASheet n)) left f a seven = absurd (f.0.wrong a)
 
     -- No. 7 EXACTLY when the four lines are right and too little is lent
-    pub seven_exactly : (r : Reading) (left : Lists) → Reads wide text lent r left → Little text lent → r ≡ TooFew
-    seven_exactly (Loaded v w) left l t = absurd (no_seven l t)
-    seven_exactly TooFew left u t = refl
-    seven_exactly (NotASheet n) left f t = absurd (f.0.not_seven t)
+    pub seven_exactly : (r : Result (Sizes × StoreLines) Unread) (left : Lists) → Reads wide text lent r left → Little text lent → r ≡ Err TooFew
+    seven_exactly (Ok (v, w)) left l t = absurd (no_seven l t)
+    seven_exactly (Err TooFew) left u t = refl
+    seven_exactly (Err (NotASheet n)) left f t = absurd (f.0.not_seven t)
 
     -- THE CONTRACT DECIDES: the answer and the lists are the same, whatever meets it
-    pub read_decides : (r q : Reading) (left right : Lists) → Reads wide text lent r left → Reads wide text lent q right → (r ≡ q) × (left ≡ right)
-    read_decides (Loaded v w) (Loaded u y) left right l m =
+    pub read_decides : (r q : Result (Sizes × StoreLines) Unread) (left right : Lists) → Reads wide text lent r left → Reads wide text lent q right → (r ≡ q) × (left ≡ right)
+    read_decides (Ok (v, w)) (Ok (u, y)) left right l m =
         let same = same_whole l (whole_read m) m.accepted m.blank m.is in (
-          ap {B = Reading} (λ (s : Sizes). Loaded s w) (says_sizes l ∙ ap sizes_of same ∙ sym (says_sizes m)) ∙ ap {B = Reading} (λ (s : StoreLines). Loaded u s) (says_store l ∙ ap store_of same ∙ sym (says_store m)),
+          ap {B = Result (Sizes × StoreLines) Unread} (λ (s : Sizes). Ok (s, w)) (says_sizes l ∙ ap sizes_of same ∙ sym (says_sizes m)) ∙ ap {B = Result (Sizes × StoreLines) Unread} (λ (s : StoreLines). Ok (u, s)) (says_store l ∙ ap store_of same ∙ sym (says_store m)),
           left_is l ∙ ap (λ (x : Whole). left_by x.set lent) same ∙ sym (left_is m),
         )
-    read_decides (Loaded v w) TooFew left right l m = absurd (no_seven l m.0)
-    read_decides (Loaded v w) (NotASheet n) left right l m = absurd (m.0.wrong (is_acceptable l))
-    read_decides TooFew (Loaded u y) left right l m = absurd (no_seven m l.0)
-    read_decides TooFew TooFew left right l m = (refl, l.1 ∙ sym m.1)
-    read_decides TooFew (NotASheet n) left right l m = absurd (m.0.not_seven l.0)
-    read_decides (NotASheet n) (Loaded u y) left right l m = absurd (l.0.wrong (is_acceptable m))
-    read_decides (NotASheet n) TooFew left right l m = absurd (l.0.not_seven m.0)
-    read_decides (NotASheet n) (NotASheet k) left right l m = (ap NotASheet (one_byte wide text n k l.0.byte m.0.byte), l.1 ∙ sym m.1)
+    read_decides (Ok (v, w)) (Err TooFew) left right l m = absurd (no_seven l m.0)
+    read_decides (Ok (v, w)) (Err (NotASheet n)) left right l m = absurd (m.0.wrong (is_acceptable l))
+    read_decides (Err TooFew) (Ok (u, y)) left right l m = absurd (no_seven m l.0)
+    read_decides (Err TooFew) (Err TooFew) left right l m = (refl, l.1 ∙ sym m.1)
+    read_decides (Err TooFew) (Err (NotASheet n)) left right l m = absurd (m.0.not_seven l.0)
+    read_decides (Err (NotASheet n)) (Ok (u, y)) left right l m = absurd (l.0.wrong (is_acceptable m))
+    read_decides (Err (NotASheet n)) (Err TooFew) left right l m = absurd (l.0.not_seven m.0)
+    read_decides (Err (NotASheet n)) (Err (NotASheet k)) left right l m = (ap (λ x. Err (NotASheet x)) (one_byte wide text n k l.0.byte m.0.byte), l.1 ∙ sym m.1)

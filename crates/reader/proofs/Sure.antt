@@ -11,10 +11,10 @@ use Rattle.reader.proofs.read.read_sheet.Kinds as read
 use Rattle.reader.proofs.read.read_sheet.Reads as read-reads
 use Rattle.reader.proofs.read.read_sheet16.Kinds as read16
 use Rattle.reader.proofs.read.read_sheet16.Reads as read16-reads
-use Rattle.reader.proofs.Reading.number.Kinds as number
-use Rattle.reader.proofs.Reading.number.Reads as number-reads
-use Rattle.reader.proofs.Reading.byte.Kinds as byte
-use Rattle.reader.proofs.Reading.byte.Reads as byte-Reads
+use Rattle.reader.proofs.answer.UnreadNumbered.number.Kinds as number
+use Rattle.reader.proofs.answer.UnreadNumbered.number.Reads as number-reads
+use Rattle.reader.proofs.answer.byte.Kinds as byte
+use Rattle.reader.proofs.answer.byte.Reads as byte-Reads
 
 pub read_sheet_decides : Decides read.ps read.r read-reads.Post (λ κs s t. (s.1.0.now ≡ t.1.0.now) × (s.1.1.0.now ≡ t.1.1.0.now) × (s.1.1.1.0.now ≡ t.1.1.1.0.now) × (s.1.1.1.1.0.now ≡ t.1.1.1.1.0.now))
 read_sheet_decides κs a x y s t p q =

@@ -1,9 +1,9 @@
 -- What the readers answer, and what the lent lists hold afterwards. `wide` is true for `read_sheet`, false for `read_sheet16`. Cited by both and by what judges for them.
 -- Definitions only. Assumes nothing.
-use Rattle.std.specs.Prelude.{◌≡◌, Bool, true, false, ◌||◌, List, ℕ, ◌*◌, ltb, ℤ, length}
+use Rattle.std.specs.Prelude.{Result, Ok, Err, ◌≡◌, Bool, true, false, ◌||◌, List, ℕ, ◌*◌, ltb, ℤ, length}
 use Rattle.text.specs.Text.{over}
 use Rattle.refusal.specs.declared.Refusal.TheVariants.{TooFewSlots, NotASheet as NotOfAForm}
-use Rattle.refusal.specs.Refusal.{number_of as refusalNumber}
+use Rattle.refusal.specs.Refusal.{number_of as refusalNumber, answer_number}
 use Rattle.windows.specs.Set.{Stored, windows}
 use Rattle.sheet.specs.Text.{sheet_text_value}
 use Rattle.scan.specs.Form.{Found}
@@ -13,10 +13,8 @@ use Rattle.sheet_scan.specs.declared.StoreLines.{StoreLines}
 use Rattle.sheet_scan.specs.Language.{store_named_value, Accepted, Blank, Acceptable, Longest}
 use Rattle.sheet_scan.specs.Lines.{Row, size_lines, store_lines}
 use Rattle.sheet_scan.specs.Whole.{lines_of, excess_line}
-use Rattle.reader.specs.declared.Reading.{Reading}
-use Rattle.reader.specs.declared.Reading.TheVariants.{Loaded, TooFew, NotASheet}
-use Rattle.reader.specs.declared.Judged.{Judged}
-use Rattle.reader.specs.declared.Judged.TheVariants.{Right, Unread}
+use Rattle.reader.specs.declared.Unread.{Unread}
+use Rattle.reader.specs.declared.Unread.TheVariants.{TooFew, NotASheet}
 
 -- four lists: weights, starts, sizes and excesses
 pub record Lists : Type 0 where
@@ -71,20 +69,14 @@ pub record Readable (wide : Bool) (text : List ℕ) (room : Room) (v : Sizes) (w
   pub enough : too_few_slots v room ≡ false
 
 -- why a text is not read
-abbrev pub NotRead : Bool → List ℕ → Room → Reading → Type 0
-NotRead wide text room (Loaded v w) = ⊥
+abbrev pub NotRead : Bool → List ℕ → Room → Unread → Type 0
 NotRead wide text room TooFew = TooLittle text room
 NotRead wide text room (NotASheet n) = NotOfThisForm wide text room n
 
 -- what a text is judged to be
-abbrev pub Judges : Bool → List ℕ → Room → Judged → Type 0
-Judges wide text room (Right v w mid) = Readable wide text room v w mid
-Judges wide text room (Unread r) = NotRead wide text room r
-
--- the answer for it
-abbrev pub reading_of : Judged → Reading
-reading_of (Right v w mid) = Loaded v w
-reading_of (Unread r) = r
+abbrev pub Judges : Bool → List ℕ → Room → Result (Sizes × StoreLines × ℕ) Unread → Type 0
+Judges wide text room (Ok (v, w, mid)) = Readable wide text room v w mid
+Judges wide text room (Err r) = NotRead wide text room r
 
 -- the text is the sheet of an accepted set whose slots past the windows' sizes are 0; enough is lent, and holds that set from its beginning on
 pub record Loads (wide : Bool) (text : List ℕ) (lent : Lists) (v : Sizes) (w : StoreLines) (left : Lists) : Type 0 where
@@ -103,18 +95,20 @@ pub record Loads (wide : Bool) (text : List ℕ) (lent : Lists) (v : Sizes) (w :
   pub excesses : left.excesses ≡ over set.excesses lent.excesses
 
 -- the reader's answer
-abbrev pub Reads : Bool → List ℕ → Lists → Reading → Lists → Type 0
-Reads wide text lent (Loaded v w) left = Loads wide text lent v w left
-Reads wide text lent TooFew left = TooLittle text (room_of lent) × (left ≡ lent)
-Reads wide text lent (NotASheet n) left = NotOfThisForm wide text (room_of lent) n × (left ≡ lent)
+abbrev pub Reads : Bool → List ℕ → Lists → Result (Sizes × StoreLines) Unread → Lists → Type 0
+Reads wide text lent (Ok (v, w)) left = Loads wide text lent v w left
+Reads wide text lent (Err TooFew) left = TooLittle text (room_of lent) × (left ≡ lent)
+Reads wide text lent (Err (NotASheet n)) left = NotOfThisForm wide text (room_of lent) n × (left ≡ lent)
 
 -- the number of an answer, and the byte beside it
-abbrev pub number_of : Reading → ℕ
-number_of (Loaded v w) = 0
-number_of TooFew = refusalNumber TooFewSlots
-number_of (NotASheet n) = refusalNumber NotOfAForm
+abbrev pub unread_number : Unread → ℕ
+unread_number TooFew = refusalNumber TooFewSlots
+unread_number (NotASheet n) = refusalNumber NotOfAForm
 
-abbrev pub byte_of : Reading → ℕ
-byte_of (Loaded v w) = 0
-byte_of TooFew = 0
-byte_of (NotASheet n) = n
+abbrev pub number_of : Result (Sizes × StoreLines) Unread → ℕ
+number_of = answer_number unread_number
+
+abbrev pub byte_of : Result (Sizes × StoreLines) Unread → ℕ
+byte_of (Ok (v, w)) = 0
+byte_of (Err TooFew) = 0
+byte_of (Err (NotASheet n)) = n

@@ -1,30 +1,28 @@
-// The number of an answer, and the byte beside it.
+// The number of a text that was not read, and the byte beside the number of any text.
 ghost use Rattle.std.specs.Prelude.{◌≡◌};
-ghost use Rattle.reader.specs.Reading.{number_of, byte_of};
+ghost use Rattle.reader.specs.Reading.{unread_number, byte_of};
 
-use crate::Reading;
-use refusal::Refusal;
+use crate::Unread;
+use refusal::{Numbered, Refusal};
+use sheet_scan::{Sizes, StoreLines};
 
-impl Reading {
-    // The number: 0 for a set that is loaded, else the refusal's.
-    pub fn number(self) -> u32
-        ensures answer { result ≡ number_of self }
-    {
+impl Numbered for Unread {
+    ghost number_of = { unread_number };
+
+    fn number(&self) -> u32 {
         match self {
-            Reading::Loaded(_, _) => 0,
-            Reading::TooFew => refusal::number(Refusal::TooFewSlots),
-            Reading::NotASheet(_) => refusal::number(Refusal::NotASheet),
+            Unread::TooFew => Refusal::TooFewSlots.number(),
+            Unread::NotASheet(_) => Refusal::NotASheet.number(),
         }
     }
+}
 
-    // The byte of No. 13, else 0.
-    pub fn byte(self) -> u64
-        ensures answer { result ≡ byte_of self }
-    {
-        match self {
-            Reading::Loaded(_, _) => 0,
-            Reading::TooFew => 0,
-            Reading::NotASheet(byte) => byte,
-        }
+// The byte of No. 13, else 0.
+pub fn byte(reading: Result<(Sizes, StoreLines), Unread>) -> u64
+    ensures answer { result ≡ byte_of reading }
+{
+    match reading {
+        Err(Unread::NotASheet(byte)) => byte,
+        _ => 0,
     }
 }

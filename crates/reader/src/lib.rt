@@ -6,20 +6,12 @@ mod answer;
 mod judge;
 mod read;
 
+pub use answer::byte;
 pub use read::{read_sheet, read_sheet16};
-use sheet_scan::{Sizes, StoreLines};
 
-// The answer: what was loaded; too few slots, starts, sizes or excesses lent (No. 7); or the byte where the longest acceptable beginning ends (No. 13).
+// Why nothing was loaded: too few slots, starts, sizes or excesses lent (No. 7); or the byte where the longest acceptable beginning ends (No. 13).
 #[derive(Clone, Copy)]
-pub enum Reading {
-    Loaded(Sizes, StoreLines),
+pub enum Unread {
     TooFew,
     NotASheet(u64),
-}
-
-// What a text is: a sheet, with what its head lines say and the place of the windows' lines, or the answer for a text that is not read.
-#[derive(Drop)]
-pub(crate) enum Judged {
-    Right(Sizes, StoreLines, usize),
-    Unread(Reading),
 }

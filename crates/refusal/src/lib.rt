@@ -1,10 +1,10 @@
 // `refusal`: why a call is refused, one case of `Refusal` for each number of document 01's table and of document 02's requests, in their order.
 #![tactic(auto)]
 
-ghost use Rattle.std.specs.Prelude.{◌≡◌};
-ghost use Rattle.refusal.specs.Refusal.{number_of};
+ghost use Rattle.std.specs.Prelude.{◌≡◌, ℕ};
+ghost use Rattle.refusal.specs.Refusal.{number_of as number_of_refusal, answer_number};
 
-#[derive(Clone, Copy)]
+#[derive(Clone, Copy, Debug, PartialEq, Eq)]
 pub enum Refusal {
     // 1: a side or row length outside the sizes
     BadSide,
@@ -40,26 +40,48 @@ pub enum Refusal {
     RetiredFilter,
 }
 
+// What has a number of the table: a refusal, the error of a call that has more to say than a refusal, and the answer of a call.
+pub trait Numbered {
+    ghost number_of: { Self → ℕ };
+
+    fn number(&self) -> u32
+        ensures answer { result ≡ number_of self.now };
+}
+
 // The number of the table.
-pub fn number(refusal: Refusal) -> u32
-    ensures answer { result ≡ number_of refusal }
-{
-    match refusal {
-        Refusal::BadSide => 1,
-        Refusal::NotFinite => 2,
-        Refusal::NegativeExtent => 3,
-        Refusal::StartOutside => 4,
-        Refusal::EndOutside => 5,
-        Refusal::NoScale => 6,
-        Refusal::TooFewSlots => 7,
-        Refusal::BlankWindow => 8,
-        Refusal::WeightOutside => 9,
-        Refusal::DoesNotFit => 10,
-        Refusal::NoRoom => 11,
-        Refusal::SampleOutside => 12,
-        Refusal::NotASheet => 13,
-        Refusal::NoOffer => 14,
-        Refusal::SharesDoNotFit => 15,
-        Refusal::RetiredFilter => 16,
+impl Numbered for Refusal {
+    ghost number_of = { number_of_refusal };
+
+    fn number(&self) -> u32 {
+        match self {
+            Refusal::BadSide => 1,
+            Refusal::NotFinite => 2,
+            Refusal::NegativeExtent => 3,
+            Refusal::StartOutside => 4,
+            Refusal::EndOutside => 5,
+            Refusal::NoScale => 6,
+            Refusal::TooFewSlots => 7,
+            Refusal::BlankWindow => 8,
+            Refusal::WeightOutside => 9,
+            Refusal::DoesNotFit => 10,
+            Refusal::NoRoom => 11,
+            Refusal::SampleOutside => 12,
+            Refusal::NotASheet => 13,
+            Refusal::NoOffer => 14,
+            Refusal::SharesDoNotFit => 15,
+            Refusal::RetiredFilter => 16,
+        }
+    }
+}
+
+// 0 where the call did its work, else the number of what kept it from that.
+impl<T, E: Numbered> Numbered for Result<T, E> {
+    ghost number_of = { answer_number E.number_of };
+
+    fn number(&self) -> u32 {
+        match self {
+            Ok(_) => 0,
+            Err(error) => error.number(),
+        }
     }
 }

@@ -1,16 +1,15 @@
 // The program `repair_sheet`: the sheet of a file with our own offer taken over, or the first display line that has none. `sheet_files` brings the text,
-// `reader` judges it; `cutting` leaves the set's own part of the lists, `repairing` makes the offer and takes it over by the functions of the sheet's
-// store (`stores`), `printing` prints the sheet, `refused` says why nothing is repaired. Standard output has the sheet or the answer, standard error the
+// `reader` judges it; `repairing` makes the offer for the set's own part of the lists and takes it over, in the sheet's
+// store, `printing` prints the sheet, `refused` says why nothing is repaired. Standard output has the sheet or the answer, standard error the
 // reason for a person. No contract says what is read or printed, since none could speak of the streams; every function is safe at every argument.
 #![tactic(auto)]
 
-mod cutting;
 mod printing;
 mod refused;
 mod repairing;
-mod stores;
 
-use reader::Reading;
+use reader::Unread;
+use sheet_scan::{Sizes, StoreLines};
 
 // Answers the program's one argument, a file's name. The text stands here, apart from what looks at it.
 pub fn run(rt: HostRuntime) {
@@ -19,30 +18,27 @@ pub fn run(rt: HostRuntime) {
 }
 
 // Reads the file, and what it has.
-fn answer(rt: HostRuntime, text: &mut [u8]) {
-    let a: usize = 0;
-    let got = sheet_files::text(rt, text);
-    let n = got.n;
-    if got.whole {
-        judge(rt, &text[a..n]);
+fn answer(rt: HostRuntime, room: &mut [u8]) {
+    if let Some(text) = sheet_files::text(rt, room) {
+        judge(rt, text);
     }
 }
 
 // The lists of `read`, and nothing else: one call. They are as long as those of `read_back`.
 fn judge(rt: HostRuntime, text: &[u8]) {
-    let mut narrow = [0i16; 131072];
-    let mut wide = [0i32; 131072];
+    let mut weights = [0i32; 131072];
     let mut starts = [0u32; 8192];
     let mut sizes = [0u32; 8192];
     let mut excesses = [0i64; 8192];
+    let mut offer = [0i32; 131072];
     read(
         rt,
         text,
-        &mut narrow,
-        &mut wide,
+        &mut weights,
         &mut starts,
         &mut sizes,
         &mut excesses,
+        &mut offer,
     );
 }
 
@@ -50,44 +46,75 @@ fn judge(rt: HostRuntime, text: &[u8]) {
 fn read(
     rt: HostRuntime,
     text: &[u8],
-    narrow: &mut [i16],
-    wide: &mut [i32],
+    weights: &mut [i32],
+    starts: &mut [u32],
+    sizes: &mut [u32],
+    excesses: &mut [i64],
+    offer: &mut [i32],
+) {
+    let answer = reader::read_sheet(text, weights, starts, sizes, excesses);
+    let Ok((head, store)) = answer else {
+        return unread(rt, answer, text);
+    };
+    if store.bits == 16 {
+        return judge16(rt, text, starts, sizes, excesses);
+    }
+    repairing::repair(
+        rt,
+        head,
+        store.precision,
+        weights,
+        starts,
+        sizes,
+        excesses,
+        offer,
+    );
+}
+
+// The lists of `read16`, of the weights' own size.
+fn judge16(
+    rt: HostRuntime,
+    text: &[u8],
     starts: &mut [u32],
     sizes: &mut [u32],
     excesses: &mut [i64],
 ) {
-    let answer = reader::read_sheet(text, wide, starts, sizes, excesses);
-    let Reading::Loaded(head, store) = answer else {
-        return unread(rt, answer, text);
-    };
-    if store.bits == 16 {
-        return read16(rt, text, narrow, wide, starts, sizes, excesses);
-    }
-    cutting::cut(rt, head, store, narrow, wide, starts, sizes, excesses);
+    let mut weights = [0i16; 131072];
+    let mut offer = [0i16; 131072];
+    read16(rt, text, &mut weights, starts, sizes, excesses, &mut offer);
 }
 
 // One of the 16-bit store, into a list of that store.
 fn read16(
     rt: HostRuntime,
     text: &[u8],
-    narrow: &mut [i16],
-    wide: &mut [i32],
+    weights: &mut [i16],
     starts: &mut [u32],
     sizes: &mut [u32],
     excesses: &mut [i64],
+    offer: &mut [i16],
 ) {
-    let answer = reader::read_sheet16(text, narrow, starts, sizes, excesses);
-    let Reading::Loaded(head, store) = answer else {
+    let answer = reader::read_sheet16(text, weights, starts, sizes, excesses);
+    let Ok((head, store)) = answer else {
         return unread(rt, answer, text);
     };
-    cutting::cut(rt, head, store, narrow, wide, starts, sizes, excesses);
+    repairing::repair(
+        rt,
+        head,
+        store.precision,
+        weights,
+        starts,
+        sizes,
+        excesses,
+        offer,
+    );
 }
 
 // Why there is no set.
-fn unread(rt: HostRuntime, answer: Reading, text: &[u8]) {
+fn unread(rt: HostRuntime, answer: Result<(Sizes, StoreLines), Unread>, text: &[u8]) {
     match answer {
-        Reading::Loaded(_, _) => return,
-        Reading::TooFew => sheet_files::too_large(rt),
-        Reading::NotASheet(byte) => sheet_files::refused(rt, text, byte),
+        Ok((_, _)) => return,
+        Err(Unread::TooFew) => sheet_files::too_large(rt),
+        Err(Unread::NotASheet(byte)) => sheet_files::refused(rt, text, byte),
     }
 }

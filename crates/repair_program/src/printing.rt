@@ -1,27 +1,28 @@
 // The sheet of the repaired set, printed.
 use crate::refused;
-use sheet::Sheet;
+use program_streams::out;
+use refusal::Refusal;
 use sheet_files::room;
-use sheet_files::streams::out;
-use sheet_scan::{Sizes, StoreLines};
+use sheet_scan::Sizes;
+use windows::Weight;
 
 // The sheet of the set as it is now stored.
-pub(crate) fn print(
+pub(crate) fn print<W: Weight>(
     rt: HostRuntime,
     head: Sizes,
-    store: StoreLines,
-    narrow: &[i16],
-    wide: &[i32],
+    precision: u32,
+    weights: &[W],
     starts: &[u32],
     sizes: &[u32],
     excesses: &[i64],
 ) {
     let mut text = [0u8; 524288];
-    let answer = written(
-        head,
-        store,
-        narrow,
-        wide,
+    let answer = write_sheets::write(
+        head.kind,
+        head.lines,
+        head.window_size,
+        precision,
+        weights,
         starts,
         sizes,
         excesses,
@@ -31,39 +32,12 @@ pub(crate) fn print(
 }
 
 // The first bytes of the list, which are the sheet.
-fn show(rt: HostRuntime, answer: Sheet, text: &[u8]) {
-    let Sheet::Written(length) = answer else {
+fn show(rt: HostRuntime, answer: Result<u64, Refusal>, text: &[u8]) {
+    let Ok(length) = answer else {
         return refused::too_long(rt);
     };
-    let a: usize = 0;
-    let n = length as usize;
-    if text.len() < n {
-        return refused::too_long(rt);
+    match text.get(..length as usize) {
+        Some(sheet) => out(rt, sheet),
+        None => refused::too_long(rt),
     }
-    out(rt, &text[a..n]);
-}
-
-// The writer of the sheet's store.
-fn written(
-    head: Sizes,
-    store: StoreLines,
-    narrow: &[i16],
-    wide: &[i32],
-    starts: &[u32],
-    sizes: &[u32],
-    excesses: &[i64],
-    text: &mut [u8],
-) -> Sheet {
-    let kind = head.kind;
-    let lines = head.lines;
-    let window = head.window_size;
-    let precision = store.precision;
-    if store.bits == 16 {
-        return write_sheets::write_sheet16(
-            kind, lines, window, precision, narrow, starts, sizes, excesses, text,
-        );
-    }
-    write_sheets::write_sheet32(
-        kind, lines, window, precision, wide, starts, sizes, excesses, text,
-    )
 }

@@ -1,110 +1,96 @@
 // One set, repaired: our own offer, and the judge of it.
-use crate::{printing, refused, stores};
-use repairs::{Accepted, Offered};
-use sheet_scan::{Sizes, StoreLines};
+use crate::{printing, refused};
+use refusal::Numbered;
+use sheet_scan::Sizes;
+use windows::Weight;
 
-// The lists of the offer, and nothing else: one call.
-pub(crate) fn repair(
+// The set's own part of the lists that it was read into, repaired; the offer is made in a list that is as long as that of the weights.
+pub(crate) fn repair<W: Weight>(
     rt: HostRuntime,
     head: Sizes,
-    store: StoreLines,
-    narrow: &mut [i16],
-    wide: &mut [i32],
+    precision: u32,
+    weights: &mut [W],
     starts: &[u32],
     sizes: &[u32],
     excesses: &mut [i64],
+    offer: &mut [W],
 ) {
-    let mut narrow_offer = [0i16; 131072];
-    let mut wide_offer = [0i32; 131072];
+    let n = head.windows as usize;
+    let Some(slots) = n.checked_mul(head.window_size as usize) else {
+        return sheet_files::too_large(rt);
+    };
+    if weights.len() < slots || offer.len() < slots {
+        return sheet_files::too_large(rt);
+    }
+    if starts.len() < n || sizes.len() < n || excesses.len() < n {
+        return sheet_files::too_large(rt);
+    }
     offered(
         rt,
         head,
-        store,
-        narrow,
-        wide,
-        starts,
-        sizes,
-        excesses,
-        &mut narrow_offer,
-        &mut wide_offer,
+        precision,
+        &mut weights[..slots],
+        &starts[..n],
+        &sizes[..n],
+        &mut excesses[..n],
+        &mut offer[..slots],
     );
 }
 
-// The offer, as long as the set.
-fn offered(
+// The offer.
+fn offered<W: Weight>(
     rt: HostRuntime,
     head: Sizes,
-    store: StoreLines,
-    narrow: &mut [i16],
-    wide: &mut [i32],
+    precision: u32,
+    weights: &mut [W],
     starts: &[u32],
     sizes: &[u32],
     excesses: &mut [i64],
-    narrow_offer: &mut [i16],
-    wide_offer: &mut [i32],
+    offer: &mut [W],
 ) {
-    let a: usize = 0;
-    let answer = stores::offered(
-        head,
-        store,
-        narrow,
-        wide,
+    let answer = make_offers::make_offer(
+        head.lines,
+        head.window_size,
+        precision,
+        weights,
         starts,
         sizes,
         excesses,
-        narrow_offer,
-        wide_offer,
+        offer,
     );
-    let Offered::Done = answer else {
+    let Ok(()) = answer else {
         return refused::not_offered(rt, answer, sizes, excesses);
     };
-    let slots = narrow.len();
-    if narrow_offer.len() < slots {
-        return sheet_files::too_large(rt);
-    }
-    if wide_offer.len() < slots {
-        return sheet_files::too_large(rt);
-    }
-    accepted(
-        rt,
-        head,
-        store,
-        narrow,
-        wide,
-        starts,
-        sizes,
-        excesses,
-        &narrow_offer[a..slots],
-        &wide_offer[a..slots],
-    );
+    accepted(rt, head, precision, weights, starts, sizes, excesses, offer);
 }
 
 // The offer judged and taken over.
-fn accepted(
+fn accepted<W: Weight>(
     rt: HostRuntime,
     head: Sizes,
-    store: StoreLines,
-    narrow: &mut [i16],
-    wide: &mut [i32],
+    precision: u32,
+    weights: &mut [W],
     starts: &[u32],
     sizes: &[u32],
     excesses: &mut [i64],
-    narrow_offer: &[i16],
-    wide_offer: &[i32],
+    offer: &[W],
 ) {
-    let answer = stores::accepted(
-        head,
-        store,
-        narrow,
-        wide,
+    let answer = accept_offers::accept_offer(
+        head.lines,
+        head.window_size,
+        precision,
+        weights,
         starts,
         sizes,
         excesses,
-        narrow_offer,
-        wide_offer,
+        head.window_size,
+        precision,
+        starts,
+        sizes,
+        offer,
     );
-    let Accepted::Done = answer else {
+    let Ok(()) = answer else {
         return refused::number(rt, answer.number());
     };
-    printing::print(rt, head, store, narrow, wide, starts, sizes, excesses);
+    printing::print(rt, head, precision, weights, starts, sizes, excesses);
 }

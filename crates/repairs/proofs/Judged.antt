@@ -1,5 +1,6 @@
 -- The answers of the judge and of the offerer, test by test, what their lists hold where they answer 0, and what is true of a stored set where neither No. 1 nor No. 10 is due.
 -- Over any store. Cited by the judges and by the four public functions. Assumes nothing.
+use Rattle.std.specs.Prelude.{Result, Ok, Err, ⊤}
 use mathlib.Core.Path.{◌≡◌, refl, sym, ap, ◌∙◌}
 use mathlib.Core.Bool.{Bool, true, false, not, ◌||◌}
 use mathlib.Core.List.{List, ◌++◌}
@@ -26,28 +27,27 @@ use Rattle.orders.proofs.FirstOrders.{first_ext}
 use Rattle.offer_windows.specs.Walks.{lacking_in, offered_in, no_excess}
 use Rattle.repairs.specs.Offer.{Offer, unlike, other_shape, not_accepted, repaired_slot}
 use Rattle.repairs.specs.Answer.{accepted_of, weights_by, excesses_by, weights_of, excesses_of, lacking, first_lacking, offered_at, offered_of, written_by, written_of}
-use Rattle.repairs.specs.declared.Accepted.TheVariants.{Done, Refused}
-use Rattle.repairs.specs.declared.Offered.{Offered}
-use Rattle.repairs.specs.declared.Offered.TheVariants.{Done as Made, NotFound, Refused as NotMade}
+use Rattle.repairs.specs.declared.NotOffered.{NotOffered}
+use Rattle.repairs.specs.declared.NotOffered.TheVariants.{NotFound, Refused as NotMade}
 
 -- ---- the judge's answer
 
 module _ (store : Store) (s : Stored) (o : Offer) where
-  pub judged_1 : bad_sides_value s.set.layout.lines (windows s.set.layout) ≡ true → Refused BadSide ≡ accepted_of store s o
+  pub judged_1 : bad_sides_value s.set.layout.lines (windows s.set.layout) ≡ true → Err BadSide ≡ accepted_of store s o
   unfolding accepted_of
   judged_1 h = rw h
 
   module _ (h1 : bad_sides_value s.set.layout.lines (windows s.set.layout) ≡ false) where
-    pub judged_10 : bad_stored s store ≡ true → Refused DoesNotFit ≡ accepted_of store s o
+    pub judged_10 : bad_stored s store ≡ true → Err DoesNotFit ≡ accepted_of store s o
     unfolding accepted_of
     judged_10 h = rw (h1, h)
 
     module _ (h10 : bad_stored s store ≡ false) where
-      pub judged_14 : not_accepted s o store ≡ true → Refused NoOffer ≡ accepted_of store s o
+      pub judged_14 : not_accepted s o store ≡ true → Err NoOffer ≡ accepted_of store s o
       unfolding accepted_of
       judged_14 h = rw (h1, h10, h)
 
-      pub judged_0 : not_accepted s o store ≡ false → Done ≡ accepted_of store s o
+      pub judged_0 : not_accepted s o store ≡ false → Ok tt ≡ accepted_of store s o
       unfolding accepted_of
       judged_0 h = rw (h1, h10, h)
 
@@ -63,33 +63,33 @@ module _ (store : Store) (s : Stored) (o : Offer) where
 -- ---- the offerer's answer
 
 module _ (store : Store) (s : Stored) (room : ℕ) where
-  pub answered_1 : bad_sides_value s.set.layout.lines (windows s.set.layout) ≡ true → NotMade BadSide ≡ offered_of store s room
+  pub answered_1 : bad_sides_value s.set.layout.lines (windows s.set.layout) ≡ true → Err (NotMade BadSide) ≡ offered_of store s room
   unfolding offered_of
   answered_1 h1 = rw h1
 
   module _ (h1 : bad_sides_value s.set.layout.lines (windows s.set.layout) ≡ false) where
-    pub answered_7 : room < windows s.set.layout * s.set.layout.window_size_value → NotMade TooFewSlots ≡ offered_of store s room
+    pub answered_7 : room < windows s.set.layout * s.set.layout.window_size_value → Err (NotMade TooFewSlots) ≡ offered_of store s room
     unfolding offered_of
     answered_7 l = rw (h1, lt-ltb room (windows s.set.layout * s.set.layout.window_size_value) l)
 
     module _ (h7 : windows s.set.layout * s.set.layout.window_size_value ≤ room) where
-      pub answered_10 : bad_stored s store ≡ true → NotMade DoesNotFit ≡ offered_of store s room
+      pub answered_10 : bad_stored s store ≡ true → Err (NotMade DoesNotFit) ≡ offered_of store s room
       unfolding offered_of
       answered_10 h10 = rw (h1, le-ltb room (windows s.set.layout * s.set.layout.window_size_value) h7, h10)
 
       module _ (h10 : bad_stored s store ≡ false) where
-        pub answered_14 : first_lacking store s < windows s.set.layout → NotFound (record { 0 = first_lacking store s }) ≡ offered_of store s room
+        pub answered_14 : first_lacking store s < windows s.set.layout → Err (NotFound (record { 0 = first_lacking store s })) ≡ offered_of store s room
         unfolding offered_of
         answered_14 l = rw (h1, le-ltb room (windows s.set.layout * s.set.layout.window_size_value) h7, h10, lt-ltb (first_lacking store s) (windows s.set.layout) l)
 
-        pub answered_0 : windows s.set.layout ≤ first_lacking store s → Made ≡ offered_of store s room
+        pub answered_0 : windows s.set.layout ≤ first_lacking store s → Ok tt ≡ offered_of store s room
         unfolding offered_of
         answered_0 l = rw (h1, le-ltb room (windows s.set.layout * s.set.layout.window_size_value) h7, h10, le-ltb (first_lacking store s) (windows s.set.layout) l)
 
 -- and its list where an offer is made
-pub offer_written : (store : Store) (s : Stored) (old : List ℤ) → Made ≡ offered_of store s (length old) → front (windows s.set.layout * s.set.layout.window_size_value) (grid s.set.layout.window_size_value (offered_at store s)) old ≡ written_of store s old
+pub offer_written : (store : Store) (s : Stored) (old : List ℤ) → Ok tt ≡ offered_of store s (length old) → front (windows s.set.layout * s.set.layout.window_size_value) (grid s.set.layout.window_size_value (offered_at store s)) old ≡ written_of store s old
 unfolding written_of written_by
-offer_written store s old made = ap (λ (answer : Offered). written_by store s answer old) made
+offer_written store s old made = ap (λ (answer : Result ⊤ NotOffered). written_by store s answer old) made
 
 -- windows x window size is a machine number
 pub slots_fit : (lines windows window_size_value : ℕ) → bad_sides_value lines windows ≡ false → window_size_value < 2 ^ 32 → windows * window_size_value < 2 ^ 64

@@ -1,5 +1,6 @@
 -- The judge and the offerer agree, over any store: our own offer repairs every window that has a repair, so it is accepted; where some window has none nothing is; and no offer
 -- changes fewer weights. Cited by the promises. Assumes nothing.
+use Rattle.std.specs.Prelude.{Result, Ok, Err, ⊤}
 use mathlib.Core.Path.{◌≡◌, refl, sym, ap, ◌∙◌, subst}
 use mathlib.Core.Bool.{Bool, true, false, not}
 use mathlib.Core.List.{List}
@@ -34,8 +35,8 @@ use Rattle.repairs.specs.Offer.{Offer, unlike, other_shape, other_set, offered_f
 use Rattle.repairs.specs.Answer.{accepted_of, number_of, lacking, first_lacking, offered_at, too_few_slots, not_found, offered_of, offered_number, offered_line, written_by, written_of}
 use Rattle.repairs.specs.Left.{left_offer}
 use Rattle.repairs.specs.Agreement.{Typed, Repairs, Unwritten, OwnAccepted, Complete, FirstLine, LeastChanged}
-use Rattle.repairs.specs.declared.Offered.{Offered}
-use Rattle.repairs.specs.declared.Offered.TheVariants.{Done as Made, NotFound, Refused as NotMade}
+use Rattle.repairs.specs.declared.NotOffered.{NotOffered}
+use Rattle.repairs.specs.declared.NotOffered.TheVariants.{NotFound, Refused as NotMade}
 use Rattle.repairs.proofs.Judged.{answered_0, offer_written, whole, or_none}
 use Rattle.repairs.proofs.Rows.{accepted_exactly, offered_exactly}
 use Rattle.repairs.proofs.Taken.{each_repaired, taken_over}
@@ -144,10 +145,10 @@ pub unwritten : (store : Store) → Unwritten store
 unfolding written_of written_by
 unwritten store s old other = go (offered_of store s (length old)) refl
   where
-    go : (a : Offered) → offered_of store s (length old) ≡ a → written_by store s a old ≡ old
-    go Made e = absurd (other (ap offered_number e))
-    go (NotFound line) e = refl
-    go (NotMade refusal) e = refl
+    go : (a : Result ⊤ NotOffered) → offered_of store s (length old) ≡ a → written_by store s a old ≡ old
+    go (Ok tt) e = absurd (other (ap offered_number e))
+    go (Err (NotFound line)) e = refl
+    go (Err (NotMade refusal)) e = refl
 
 -- what an answer of 0 says of the set and of the list
 pub record Making (store : Store) (s : Stored) (room : ℕ) : Type 0 where

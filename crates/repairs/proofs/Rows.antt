@@ -1,5 +1,6 @@
 -- For the customer: each of No. 1, 10 and 14 is given by the judge of an offer, and each of No. 1, 7, 10 and 14 by the offerer, exactly when its test holds and none that is judged
 -- before it does, and No. 0 exactly when none holds; so for every input one row applies and no other. Over any store. Cited by docs/CONTRACTS.md. Assumes nothing.
+use Rattle.std.specs.Prelude.{Ok, Err}
 use mathlib.Core.Path.{◌≡◌, refl}
 use mathlib.Core.Bool.{Bool, true, false, cond}
 use mathlib.Core.List.{List, [], ◌∷◌}
@@ -14,16 +15,15 @@ use Rattle.windows.specs.Set.{Stored, windows}
 use Rattle.windows.specs.Fit.{bad_stored}
 use Rattle.repairs.specs.Offer.{Offer, not_accepted}
 use Rattle.repairs.specs.Answer.{accepted_of, number_of, first_lacking, too_few_slots, not_found, offered_of, offered_number}
-use Rattle.repairs.specs.declared.Accepted.TheVariants.{Done, Refused}
-use Rattle.repairs.specs.declared.Offered.TheVariants.{Done as Made, NotFound, Refused as NotMade}
+use Rattle.repairs.specs.declared.NotOffered.TheVariants.{NotFound, Refused as NotMade}
 
-numbered : (a b c : Bool) → number_of (cond a (Refused BadSide) (cond b (Refused DoesNotFit) (cond c (Refused NoOffer) Done))) ≡ cond a 1 (cond b 10 (cond c 14 0))
+numbered : (a b c : Bool) → number_of (cond a (Err BadSide) (cond b (Err DoesNotFit) (cond c (Err NoOffer) (Ok tt)))) ≡ cond a 1 (cond b 10 (cond c 14 0))
 numbered true b c = refl
 numbered false true c = refl
 numbered false false true = refl
 numbered false false false = refl
 
-made_numbered : (a b c d : Bool) (line : DisplayLine) → offered_number (cond a (NotMade BadSide) (cond b (NotMade TooFewSlots) (cond c (NotMade DoesNotFit) (cond d (NotFound line) Made)))) ≡ cond a 1 (cond b 7 (cond c 10 (cond d 14 0)))
+made_numbered : (a b c d : Bool) (line : DisplayLine) → offered_number (cond a (Err (NotMade BadSide)) (cond b (Err (NotMade TooFewSlots)) (cond c (Err (NotMade DoesNotFit)) (cond d (Err (NotFound line)) (Ok tt))))) ≡ cond a 1 (cond b 7 (cond c 10 (cond d 14 0)))
 made_numbered true b c d line = refl
 made_numbered false true c d line = refl
 made_numbered false false true d line = refl

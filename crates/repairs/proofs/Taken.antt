@@ -1,5 +1,6 @@
 -- What an accepted offer does to a set, over any store: the judge's tests say that each window is repaired, so that no excess is left and the set passes the judge of a stored
 -- set again. Cited by the promises. Assumes nothing.
+use Rattle.std.specs.Prelude.{Result, Ok, Err, ⊤}
 use mathlib.Core.Path.{◌≡◌, refl, sym, ap, ◌∙◌, subst}
 use mathlib.Core.Bool.{Bool, false, ◌||◌}
 use mathlib.Core.List.{List}
@@ -28,8 +29,7 @@ use Rattle.repairs.specs.Offer.{Offer, other_set, offered_for, refused_at, not_a
 use Rattle.repairs.specs.Answer.{accepted_of, number_of, weights_by, excesses_by, weights_of, excesses_of}
 use Rattle.repairs.specs.Left.{left_set}
 use Rattle.repairs.specs.Agreement.{Repairs, AcceptedRepairs, TakenOver, LeftFits, Untouched}
-use Rattle.repairs.specs.declared.Accepted.{Accepted}
-use Rattle.repairs.specs.declared.Accepted.TheVariants.{Done, Refused}
+use Rattle.refusal.specs.declared.Refusal.{Refusal}
 use Rattle.repairs.proofs.Judged.{weights_taken, excesses_taken, same_slots, whole}
 use Rattle.repairs.proofs.Rows.{accepted_exactly}
 
@@ -122,6 +122,6 @@ pub untouched : (store : Store) → Untouched store
 unfolding weights_of excesses_of weights_by excesses_by
 untouched store s o other = go (accepted_of store s o) refl
   where
-    go : (a : Accepted) → accepted_of store s o ≡ a → (weights_by s o a ≡ s.set.weights) × (excesses_by s a ≡ s.excesses)
-    go Done e = absurd (other (ap number_of e))
-    go (Refused refusal) e = (refl, refl)
+    go : (a : Result ⊤ Refusal) → accepted_of store s o ≡ a → (weights_by s o a ≡ s.set.weights) × (excesses_by s a ≡ s.excesses)
+    go (Ok tt) e = absurd (other (ap number_of e))
+    go (Err refusal) e = (refl, refl)

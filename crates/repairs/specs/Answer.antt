@@ -1,9 +1,9 @@
 -- The answers of the judge of an offer and of the offerer, in the order 1, 7, 10, 14, and what their lists hold afterwards. s is the stored set, o the offer. Cited by
 -- their contracts and by the promises. Definitions only. Assumes nothing.
-use Rattle.std.specs.Prelude.{Bool, cond, List, ℕ, ◌*◌, ltb, ℤ, pos, length}
+use Rattle.std.specs.Prelude.{Bool, cond, List, ℕ, ◌*◌, ltb, ℤ, pos, length, Result, Ok, Err, ⊤}
 use Rattle.lists.specs.Ranges.{bad_sides_value}
 use Rattle.lists.specs.Tab.{tab, front, first, grid}
-use Rattle.refusal.specs.Refusal.{number_of as numberOfRefusal}
+use Rattle.refusal.specs.Refusal.{number_of as numberOfRefusal, answer_number, number_in}
 use Rattle.refusal.specs.declared.Refusal.TheVariants.{BadSide, TooFewSlots, DoesNotFit, NoOffer}
 use Rattle.windows.specs.declared.Store.{Store}
 use Rattle.windows.specs.Set.{Stored, windows, size, weight, excess_of}
@@ -11,28 +11,27 @@ use Rattle.windows.specs.Fit.{bad_stored}
 use Rattle.offers.specs.Own.{no_repair, offered_slot}
 use Rattle.offer_windows.specs.Walks.{no_excess}
 use Rattle.repairs.specs.Offer.{Offer, not_accepted, repaired_slot}
-use Rattle.repairs.specs.declared.Accepted.{Accepted}
-use Rattle.repairs.specs.declared.Accepted.TheVariants.{Done, Refused}
-use Rattle.repairs.specs.declared.Offered.{Offered}
-use Rattle.repairs.specs.declared.Offered.TheVariants.{Done as Made, NotFound, Refused as NotMade}
+use Rattle.refusal.specs.declared.Refusal.{Refusal}
+use Rattle.repairs.specs.declared.NotOffered.{NotOffered}
+use Rattle.repairs.specs.declared.NotOffered.TheVariants.{NotFound, Refused as NotMade}
 
 -- ---- the judge
 
-unfoldable pub accepted_of : Store → Stored → Offer → Accepted
+unfoldable pub accepted_of : Store → Stored → Offer → Result ⊤ Refusal
 accepted_of store s o =
-    cond (bad_sides_value s.set.layout.lines (windows s.set.layout)) (Refused BadSide)
-    (cond (bad_stored s store) (Refused DoesNotFit)
-    (cond (not_accepted s o store) (Refused NoOffer)
-    Done))
+    cond (bad_sides_value s.set.layout.lines (windows s.set.layout)) (Err BadSide)
+    (cond (bad_stored s store) (Err DoesNotFit)
+    (cond (not_accepted s o store) (Err NoOffer)
+    (Ok tt)))
 
 -- the weights and the excesses after an answer: taken over, the offered weights in use and no excess; refused, unchanged
-unfoldable pub weights_by : Stored → Offer → Accepted → List ℤ
-weights_by s o Done = tab 0 (length s.set.weights) (repaired_slot s o)
-weights_by s o (Refused refusal) = s.set.weights
+unfoldable pub weights_by : Stored → Offer → Result ⊤ Refusal → List ℤ
+weights_by s o (Ok tt) = tab 0 (length s.set.weights) (repaired_slot s o)
+weights_by s o (Err refusal) = s.set.weights
 
-unfoldable pub excesses_by : Stored → Accepted → List ℤ
-excesses_by s Done = tab 0 (length s.excesses) no_excess
-excesses_by s (Refused refusal) = s.excesses
+unfoldable pub excesses_by : Stored → Result ⊤ Refusal → List ℤ
+excesses_by s (Ok tt) = tab 0 (length s.excesses) no_excess
+excesses_by s (Err refusal) = s.excesses
 
 unfoldable pub weights_of : Store → Stored → Offer → List ℤ
 weights_of store s o = weights_by s o (accepted_of store s o)
@@ -62,35 +61,36 @@ module _ (store : Store) (s : Stored) where
   abbrev pub not_found : Bool
   not_found = ltb first_lacking (windows s.set.layout)
 
-  unfoldable pub offered_of : ℕ → Offered
+  unfoldable pub offered_of : ℕ → Result ⊤ NotOffered
   offered_of room =
-      cond (bad_sides_value s.set.layout.lines (windows s.set.layout)) (NotMade BadSide)
-      (cond (too_few_slots room) (NotMade TooFewSlots)
-      (cond (bad_stored s store) (NotMade DoesNotFit)
-      (cond not_found (NotFound (record { 0 = first_lacking }))
-      Made)))
+      cond (bad_sides_value s.set.layout.lines (windows s.set.layout)) (Err (NotMade BadSide))
+      (cond (too_few_slots room) (Err (NotMade TooFewSlots))
+      (cond (bad_stored s store) (Err (NotMade DoesNotFit))
+      (cond not_found (Err (NotFound (record { 0 = first_lacking })))
+      (Ok tt))))
 
   -- the list after an answer: made, the offer in its first slots and those past it unchanged; else all unchanged
-  unfoldable pub written_by : Offered → List ℤ → List ℤ
-  written_by Made old = front (windows s.set.layout * s.set.layout.window_size_value) (grid s.set.layout.window_size_value offered_at) old
-  written_by (NotFound line) old = old
-  written_by (NotMade refusal) old = old
+  unfoldable pub written_by : Result ⊤ NotOffered → List ℤ → List ℤ
+  written_by (Ok tt) old = front (windows s.set.layout * s.set.layout.window_size_value) (grid s.set.layout.window_size_value offered_at) old
+  written_by (Err error) old = old
 
   unfoldable pub written_of : List ℤ → List ℤ
   written_of old = written_by (offered_of (length old)) old
 
 -- ---- the numbers of the answers, and the line beside one
 
-abbrev pub number_of : Accepted → ℕ
-number_of Done = 0
-number_of (Refused refusal) = numberOfRefusal refusal
+abbrev pub number_of : Result ⊤ Refusal → ℕ
+number_of = number_in
 
-abbrev pub offered_number : Offered → ℕ
-offered_number Made = 0
-offered_number (NotFound line) = 14
-offered_number (NotMade refusal) = numberOfRefusal refusal
+-- the number of an offer that was not made
+abbrev pub not_offered_number : NotOffered → ℕ
+not_offered_number (NotFound line) = numberOfRefusal NoOffer
+not_offered_number (NotMade refusal) = numberOfRefusal refusal
 
-abbrev pub offered_line : Offered → ℕ
-offered_line Made = 0
-offered_line (NotFound line) = line.0
-offered_line (NotMade refusal) = 0
+abbrev pub offered_number : Result ⊤ NotOffered → ℕ
+offered_number = answer_number not_offered_number
+
+abbrev pub offered_line : Result ⊤ NotOffered → ℕ
+offered_line (Ok tt) = 0
+offered_line (Err (NotFound line)) = line.0
+offered_line (Err (NotMade refusal)) = 0

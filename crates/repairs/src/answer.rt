@@ -1,41 +1,29 @@
-// The numbers of the answers, and the line beside one.
+// The number of an offer that was not made, and the line beside it.
 ghost use Rattle.std.specs.Prelude.{◌≡◌};
-ghost use Rattle.repairs.specs.Answer.{number_of, offered_number, offered_line};
+ghost use Rattle.repairs.specs.Answer.{not_offered_number, offered_line};
 
-use crate::{Accepted, Offered};
+use crate::NotOffered;
+use refusal::{Numbered, Refusal};
 
-impl Accepted {
-    // 0 where the offer is taken over, else the refusal's number.
-    pub fn number(self) -> u32
-        ensures answer { result ≡ number_of self }
-    {
+// 14 where a window has no offer, else the refusal's number.
+impl Numbered for NotOffered {
+    ghost number_of = { not_offered_number };
+
+    fn number(&self) -> u32 {
         match self {
-            Accepted::Done => 0,
-            Accepted::Refused(refusal) => refusal::number(refusal),
+            NotOffered::NotFound(_) => Refusal::NoOffer.number(),
+            NotOffered::Refused(refusal) => refusal.number(),
         }
     }
 }
 
-impl Offered {
-    // 0 where an offer is written, 14 where there is none, else the refusal's number.
-    pub fn number(self) -> u32
-        ensures answer { result ≡ offered_number self }
-    {
-        match self {
-            Offered::Done => 0,
-            Offered::NotFound(_) => 14,
-            Offered::Refused(refusal) => refusal::number(refusal),
-        }
-    }
-
-    // The first line whose window has no offer, 0 where the answer is another.
-    pub fn line(self) -> u32
-        ensures answer { result ≡ offered_line self }
-    {
-        match self {
-            Offered::Done => 0,
-            Offered::NotFound(line) => line.0,
-            Offered::Refused(_) => 0,
-        }
+// The first line whose window has no offer, 0 where the answer is another.
+pub fn line(offered: Result<(), NotOffered>) -> u32
+    ensures answer { result ≡ offered_line offered }
+{
+    match offered {
+        Ok(()) => 0,
+        Err(NotOffered::NotFound(line)) => line.0,
+        Err(NotOffered::Refused(_)) => 0,
     }
 }

@@ -5,23 +5,15 @@
 
 mod answer;
 
+pub use answer::line;
 use refusal::Refusal;
 use windows::DisplayLine;
 
+// Why no offer is written.
 #[derive(Clone, Copy)]
-pub enum Accepted {
-    // 0: the offered weights are in use, and every excess is 0
-    Done,
-    // why not: 1 or 10 for the stored set, 14 for the offer; weights and excesses are unchanged
-    Refused(Refusal),
-}
-
-#[derive(Clone, Copy)]
-pub enum Offered {
-    // 0: the offer is written
-    Done,
-    // 14: this display line's window is the first that has no offer; nothing is written
+pub enum NotOffered {
+    // 14: this display line's window is the first that has no offer
     NotFound(DisplayLine),
-    // 1, 7 or 10; nothing is written
+    // 1, 7 or 10
     Refused(Refusal),
 }

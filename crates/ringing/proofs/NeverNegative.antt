@@ -1,5 +1,6 @@
 -- The proof of `NeverNegative`: every weight of a Box or Bilinear line has its sign clear, so have their total and their shares; the normaliser's product, rounding and cast keep it so. Nothing else is
 -- asked of the request: the bounds on the lists only say which slot a weight stands in. Assumes nothing.
+use Rattle.std.specs.Prelude.{Result, Ok, Some}
 use mathlib.Core.Path.{◌≡◌, refl, sym, ap, ◌∙◌, subst}
 use mathlib.Core.Logic.{◌⊎◌, inl, inr}
 use mathlib.Core.Bool.{Bool, true, false, cond}
@@ -21,7 +22,6 @@ use Rattle.filters.specs.declared.FilterType.{FilterType}
 use Rattle.filters.specs.declared.FilterType.TheVariants.{Box, Bilinear}
 use Rattle.filters.specs.declared.Filter.{Filter}
 use Rattle.filters.specs.declared.Filter.TheVariants as filter
-use Rattle.filters.specs.declared.Picked.TheVariants.{Is}
 use Rattle.filters.specs.Names.{picked_of}
 use Rattle.windows.specs.declared.Store.{Store}
 use Rattle.windows.specs.Set.{Set, windows, size, weight, in_use_value}
@@ -30,13 +30,11 @@ use Rattle.line_weights.specs.Weights.{line_weight_value, add_to, total_of, weig
 use Rattle.plans.specs.declared.Request.{Request}
 use Rattle.plans.specs.declared.Plan.{Plan}
 use Rattle.plan_windows.specs.Lines.{middle, lead, held, total, slot}
-use Rattle.coefficients.specs.declared.Built.TheVariants.{Done as Built}
 use Rattle.coefficients.specs.Answer.{window_of}
 use Rattle.coefficients.specs.Request.{built_of}
 use Rattle.weight_precision.specs.Precision.{power, scaled, integer}
 use Rattle.weight_slots.specs.Slots.{slot_at}
-use Rattle.normalizer.specs.declared.Normalized.{Normalized}
-use Rattle.normalizer.specs.declared.Normalized.TheVariants.{Done as Normal}
+use Rattle.refusal.specs.declared.Refusal.{Refusal}
 use Rattle.normalizer.specs.Answer.{written_by, written_of, precision_in}
 use Rattle.normalizer.specs.Left.{answer_for, left_set}
 use Rattle.normalizer.proofs.Judged.{Ready, ready}
@@ -73,17 +71,17 @@ slot_clear p smooth i k =
     zero_clear
 
 -- the two names pick the two filters
-picked_smooth : (kind : FilterType) (f : Filter) → (kind ≡ Box) ⊎ (kind ≡ Bilinear) → picked_of kind ≡ Is f → (f ≡ filter.Box) ⊎ (f ≡ filter.Bilinear)
+picked_smooth : (kind : FilterType) (f : Filter) → (kind ≡ Box) ⊎ (kind ≡ Bilinear) → picked_of kind ≡ Some f → (f ≡ filter.Box) ⊎ (f ≡ filter.Bilinear)
 picked_smooth kind f (inl e) h = inl (same (rw e at h))
   where
-    same : Is filter.Box ≡ Is f → f ≡ filter.Box
+    same : Some filter.Box ≡ Some f → f ≡ filter.Box
     same k = cc
 picked_smooth kind f (inr e) h = inr (same (rw e at h))
   where
-    same : Is filter.Bilinear ≡ Is f → f ≡ filter.Bilinear
+    same : Some filter.Bilinear ≡ Some f → f ≡ filter.Bilinear
     same k = cc
 
-module _ (q : Request) (ws : List Float) (ss zs : List ℕ) (w : ℕ) (smooth : (q.filter ≡ Box) ⊎ (q.filter ≡ Bilinear)) (done : built_of q (length ws) (length ss) (length zs) ≡ Built w) where
+module _ (q : Request) (ws : List Float) (ss zs : List ℕ) (w : ℕ) (smooth : (q.filter ≡ Box) ⊎ (q.filter ≡ Bilinear)) (done : built_of q (length ws) (length ss) (length zs) ≡ Ok w) where
   built_clear : (x : ℕ) → x < length (set.weights q ws ss zs w done) → Clear (get_or (set.weights q ws ss zs w done) x nan)
   built_clear x h =
       let p = set.plan q ws ss zs w done in
@@ -95,7 +93,7 @@ integer_clear : (store : Store) (p : ℕ) (w : Float) → Clear w → negative (
 unfolding integer scaled
 integer_clear store p w h = cast_clear store.limit (round_away binary64 (w times power p)) (whole_clear away binary64 (w times power p) (mul_clear binary64 w (power p) h (int_clear (2 ^ p))))
 
-module _ (store : Store) (s : Set Float) (out excesses : List ℤ) (p : ℕ) (normal : answer_for store s out excesses ≡ Normal p)
+module _ (store : Store) (s : Set Float) (out excesses : List ℤ) (p : ℕ) (normal : answer_for store s out excesses ≡ Ok p)
     (clear : (x : ℕ) → x < length s.weights → Clear (get_or s.weights x nan)) where
   abbrev wide : ℕ
   wide = s.layout.window_size_value
@@ -114,7 +112,7 @@ module _ (store : Store) (s : Set Float) (out excesses : List ℤ) (p : ℕ) (no
   unfolding written_of written_by
   stored_at x h =
       let n = windows s.layout * wide in
-      ap (λ (a : Normalized). get_or (take n (written_by store s a out)) x (pos 0)) normal
+      ap (λ (a : Result ℕ Refusal). get_or (take n (written_by store s a out)) x (pos 0)) normal
       ∙ get_or-take n (front n (slot_at store p wide s.weights s.layout.sizes) out) x (pos 0) h
       ∙ front_below n (slot_at store p wide s.weights s.layout.sizes) out x (pos 0) h
 

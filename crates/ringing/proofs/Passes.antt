@@ -1,5 +1,6 @@
 -- The proofs over what a pass writes, once over the largest sample, and at 65535 and 255: a call that is not refused has every sample in use inside its frame, and each place of its
 -- output is the value of its window and column. Assumes nothing.
+use Rattle.std.specs.Prelude.{Result, ⊤}
 use mathlib.Core.Path.{◌≡◌, ap, ◌∙◌}
 use mathlib.Core.List.{List}
 use Prim.Native.Nat.{ℕ, ◌+◌, ◌*◌, ◌/◌, ◌%◌, ◌≤◌, ◌<◌}
@@ -10,7 +11,7 @@ use Rattle.lists.specs.Tab.{grid}
 use Rattle.lists.proofs.TabLaws.{length_tab, get_d_tab, grid_at}
 use Rattle.windows.specs.Set.{Stored, windows, start}
 use Rattle.vertical.specs.Frame.{frame, output, row_of}
-use Rattle.vertical.specs.declared.Passed.{Passed}
+use Rattle.refusal.specs.declared.Refusal.{Refusal}
 use Rattle.vertical.specs.Passed.{number_of}
 use Rattle.vertical.specs.U16.{value_at, passed_u16, written_u16}
 use Rattle.vertical.proofs.Answers.{Shaped}
@@ -21,7 +22,7 @@ use Rattle.ringing.specs.NoRinging.{NoneNegative, NowhereDarker, NotDarkerOf, Fr
 use Rattle.ringing.proofs.Windows.{window_not_darker, window_between}
 
 -- what is known of a call that is not refused, for samples up to M
-record Pass (M : ℕ) (passed : Stored → ℕ → ℕ → ℕ → ℕ → ℕ → Passed) (written : Stored → List ℕ → ℕ → ℕ → ℕ → List ℕ → List ℕ) : Type 0 where
+record Pass (M : ℕ) (passed : Stored → ℕ → ℕ → ℕ → ℕ → ℕ → Result ⊤ Refusal) (written : Stored → List ℕ → ℕ → ℕ → ℕ → List ℕ → List ℕ) : Type 0 where
   fit : (s : Stored) (samples row first count room : ℕ) → number_of (passed s samples row first count room) ≡ 0 → Shaped s.set samples row first count room
   precise : (s : Stored) (samples row first count room : ℕ) → number_of (passed s samples row first count room) ≡ 0 → 1 ≤ s.precision
   out_is : (s : Stored) (src : List ℕ) (row first count : ℕ) (old : List ℕ) → number_of (passed s (length src) row first count (length old)) ≡ 0
@@ -33,7 +34,7 @@ u16 = record { fit = fits; precise = some_u16; out_is = written }
 u8 : Pass 255 passed_u8 written_u8
 u8 = record { fit = fits_u8; precise = some_u8; out_is = written_u8_fact }
 
-module _ (M : ℕ) (passed : Stored → ℕ → ℕ → ℕ → ℕ → ℕ → Passed) (written : Stored → List ℕ → ℕ → ℕ → ℕ → List ℕ → List ℕ) (pass : Pass M passed written) where
+module _ (M : ℕ) (passed : Stored → ℕ → ℕ → ℕ → ℕ → ℕ → Result ⊤ Refusal) (written : Stored → List ℕ → ℕ → ℕ → ℕ → List ℕ → List ℕ) (pass : Pass M passed written) where
   module _ (s : Stored) (a b : List ℕ) (row first count : ℕ) (old old₂ : List ℕ) (done : number_of (passed s (length a) row first count (length old)) ≡ 0)
       (too : number_of (passed s (length b) row first count (length old₂)) ≡ 0) (less : NowhereDarker a b) where
     abbrev n : ℕ

@@ -1,7 +1,7 @@
 -- "Box and Bilinear sets never have a negative weight."
 -- Every Box or Bilinear request that the builder and a normaliser accept, adapting or not, whatever the crop, leaves a stored set that meets the first premise of `NoRinging` at every window. So for its
 -- passes a frame nowhere darker than another gives an output nowhere darker. Nothing is asked of the request but that it was accepted. Statements only. Assumes nothing.
-use Rattle.std.specs.Prelude.{◌≡◌, ◌⊎◌, List, ℕ, ◌<◌, ℤ, Float, length}
+use Rattle.std.specs.Prelude.{◌≡◌, ◌⊎◌, List, ℕ, ◌<◌, ℤ, Float, length, Result, ⊤}
 use Rattle.filters.specs.declared.FilterType.TheVariants.{Box, Bilinear}
 use Rattle.windows.specs.declared.Store.{Store}
 use Rattle.windows.specs.Set.{Stored, windows}
@@ -10,7 +10,7 @@ use Rattle.plans.specs.declared.Request.{Request}
 use Rattle.coefficients.specs.Answer.{number_of as numberOfBuilt}
 use Rattle.normalizer.specs.Answer.{number_of as numberOfNormalized}
 use Rattle.normalizer.specs.Left.{answer_for, left_set}
-use Rattle.vertical.specs.declared.Passed.{Passed}
+use Rattle.refusal.specs.declared.Refusal.{Refusal}
 use Rattle.vertical.specs.Passed.{number_of}
 use Rattle.vertical.specs.U16.{passed_u16, written_u16}
 use Rattle.vertical_u8.specs.U8.{passed_u8, written_u8}
@@ -35,7 +35,7 @@ NeverNegative =
     → (i : ℕ) → i < windows (stored store q lines ws ss zs out excesses).set.layout → NoneNegative (stored store q lines ws ss zs out excesses) i
 
 -- of a pass over integers, with the store that it takes
-abbrev pub BuiltNotDarkerOf : Store → (Stored → ℕ → ℕ → ℕ → ℕ → ℕ → Passed) → (Stored → List ℕ → ℕ → ℕ → ℕ → List ℕ → List ℕ) → Type 0
+abbrev pub BuiltNotDarkerOf : Store → (Stored → ℕ → ℕ → ℕ → ℕ → ℕ → Result ⊤ Refusal) → (Stored → List ℕ → ℕ → ℕ → ℕ → List ℕ → List ℕ) → Type 0
 BuiltNotDarkerOf store passed written =
     (q : Request) (lines : ℕ) (ws : List Float) (ss zs : List ℕ) (out excesses : List ℤ) → Accepted store q lines ws ss zs out excesses
     → let s = stored store q lines ws ss zs out excesses in

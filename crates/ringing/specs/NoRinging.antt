@@ -1,12 +1,12 @@
 -- "No ringing where no weight is negative."
 -- In a window with no negative weight, a frame nowhere darker than another gives an output nowhere darker. If besides that the window's excess is 0, each output lies between the smallest
 -- and the largest sample of its window and column. M is the largest sample: 65535 for u16, 255 for u8. Nothing is asked of the other windows. Statements only. Assumes nothing.
-use Rattle.std.specs.Prelude.{◌≡◌, false, List, ℕ, ◌+◌, ◌≤◌, ◌<◌, min, max, pos, length, get_or}
+use Rattle.std.specs.Prelude.{◌≡◌, false, List, ℕ, ◌+◌, ◌≤◌, ◌<◌, min, max, pos, length, get_or, Result, ⊤}
 use Rattle.lists.specs.Tab.{turns}
 use Rattle.orders.specs.Negative.{some_negative_value}
 use Rattle.windows.specs.Set.{Stored, windows, size, weight, sample, excess_of}
 use Rattle.vertical.specs.Frame.{frame, row_of}
-use Rattle.vertical.specs.declared.Passed.{Passed}
+use Rattle.refusal.specs.declared.Refusal.{Refusal}
 use Rattle.vertical.specs.Passed.{number_of}
 use Rattle.vertical.specs.U16.{value_at, passed_u16, written_u16}
 use Rattle.vertical_u8.specs.U8.{passed_u8, written_u8}
@@ -48,7 +48,7 @@ abbrev pub UpTo : ℕ → List ℕ → Type 0
 UpTo M src = (x : ℕ) → x < length src → get_or src x 0 ≤ M
 
 -- of a pass over integers, with a first premise on a window
-module _ (First : Stored → ℕ → Type 0) (passed : Stored → ℕ → ℕ → ℕ → ℕ → ℕ → Passed) (written : Stored → List ℕ → ℕ → ℕ → ℕ → List ℕ → List ℕ) where
+module _ (First : Stored → ℕ → Type 0) (passed : Stored → ℕ → ℕ → ℕ → ℕ → ℕ → Result ⊤ Refusal) (written : Stored → List ℕ → ℕ → ℕ → ℕ → List ℕ → List ℕ) where
   -- two frames, one nowhere darker, through one set and the same columns, where neither call is refused: so is its row of window i, whatever stood in the two outputs
   abbrev pub NotDarkerOf : Type 0
   NotDarkerOf =

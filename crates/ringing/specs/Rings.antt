@@ -1,7 +1,7 @@
 -- "The first premise is needed."
 -- The set of `./mirror sheet catmullrom 6 0 6 4`, with either store: window 0 has negative weights and the excess 0. The frame `flat` is nowhere darker than `dark`, and comes out darker there; the frame
 -- `spot`, flat but for a line, comes out darker than its darkest sample. So without the first premise neither statement of `NoRinging` holds. Statements only. Assumes nothing.
-use Rattle.std.specs.Prelude.{◌≡◌, true, List, [], ◌∷◌, ℕ, ℤ, pos, negsuc}
+use Rattle.std.specs.Prelude.{◌≡◌, true, List, [], ◌∷◌, ℕ, ℤ, pos, negsuc, Result, Ok, ⊤}
 use Rattle.lists.specs.Tab.{tab}
 use Rattle.floats.specs.Doubles.{zero64, one64, double}
 use Rattle.orders.specs.Negative.{some_negative_value}
@@ -12,8 +12,7 @@ use Rattle.windows.specs.Store.{store16, store32}
 use Rattle.plans.specs.declared.Axis.TheVariants.{Down}
 use Rattle.plans.specs.declared.Request.{Request}
 use Rattle.normalizer.specs.Left.{left_set}
-use Rattle.vertical.specs.declared.Passed.{Passed}
-use Rattle.vertical.specs.declared.Passed.TheVariants.{Done}
+use Rattle.refusal.specs.declared.Refusal.{Refusal}
 use Rattle.vertical.specs.U16.{passed_u16, written_u16}
 use Rattle.vertical_u8.specs.U8.{passed_u8, written_u8}
 use Rattle.promises.specs.BoxKeepsFlat.{fresh}
@@ -72,7 +71,7 @@ abbrev pub spot : List ℕ
 spot = 100 ∷ 100 ∷ 200 ∷ 100 ∷ 100 ∷ 100 ∷ []
 
 -- of a store's set s and a pass over integers
-module _ (store : Store) (s : Stored) (passed : Stored → ℕ → ℕ → ℕ → ℕ → ℕ → Passed) (written : Stored → List ℕ → ℕ → ℕ → ℕ → List ℕ → List ℕ) where
+module _ (store : Store) (s : Stored) (passed : Stored → ℕ → ℕ → ℕ → ℕ → ℕ → Result ⊤ Refusal) (written : Stored → List ℕ → ℕ → ℕ → ℕ → List ℕ → List ℕ) where
   -- the four display lines of a frame
   abbrev shown : List ℕ → List ℕ
   shown frame = written s frame 1 0 1 (zeros 0 4)
@@ -80,7 +79,7 @@ module _ (store : Store) (s : Stored) (passed : Stored → ℕ → ℕ → ℕ �
   -- s is what was made; window 0 has a negative weight, and its excess is 0; the pass takes s; and what it writes
   abbrev pub RingsIn : Type 0
   RingsIn =
-      (made_in store ≡ s) × (some_negative_value (weight s.set (pos 0) 0) (size s.set.layout 0) ≡ true) × (excess_of s 0 ≡ pos 0) × (passed s 6 1 0 1 4 ≡ Done)
+      (made_in store ≡ s) × (some_negative_value (weight s.set (pos 0) 0) (size s.set.layout 0) ≡ true) × (excess_of s 0 ≡ pos 0) × (passed s 6 1 0 1 4 ≡ Ok tt)
       × (shown dark ≡ 105 ∷ 33 ∷ 0 ∷ 0 ∷ [])
       × (shown flat ≡ 100 ∷ 100 ∷ 100 ∷ 100 ∷ [])
       × (shown spot ≡ 96 ∷ 162 ∷ 109 ∷ 99 ∷ [])
@@ -92,7 +91,7 @@ abbrev pub RingsU8 : Type 0
 RingsU8 = RingsIn store16 sheet16 passed_u8 written_u8
 
 -- both statements of a pass, with nothing in the place of the first premise, are false
-abbrev pub Needed : (Stored → ℕ → ℕ → ℕ → ℕ → ℕ → Passed) → (Stored → List ℕ → ℕ → ℕ → ℕ → List ℕ → List ℕ) → ℕ → Type 0
+abbrev pub Needed : (Stored → ℕ → ℕ → ℕ → ℕ → ℕ → Result ⊤ Refusal) → (Stored → List ℕ → ℕ → ℕ → ℕ → List ℕ → List ℕ) → ℕ → Type 0
 Needed passed written M = (NotDarkerOf (λ s i. Unit) passed written → ⊥) × (BetweenOf (λ s i. Unit) passed written M → ⊥)
 
 abbrev pub FirstPremiseNeeded : Type 0

@@ -24,10 +24,8 @@ fn narrow16(ss: [f64; 16]) -> [f32; 16]
     ensures { (t : ℕ) → t < 16 → get_or result t nan ≡ narrowOf (get_or ss t nan) }
 {
     let mut ys: [f32; 16] = [0.0; 16];
-    let mut t: usize = 0;
-    while t < 16 {
+    for t in 0..16 {
         ys[t] = narrow(ss[t]);
-        t = t + 1;
     }
     ys
 }
@@ -38,10 +36,8 @@ fn put16(ys: [f32; 16], out: &mut [f32], j: usize)
     ensures by_index { (t : ℕ) → t < 16 → get_or out.new (j + t) nan ≡ get_or ys t nan }
     ensures by_index_2 { (x : ℕ) → x < j → get_or out.new x nan ≡ get_or out.old x nan }
 {
-    let mut t: usize = 0;
-    while t < 16 {
+    for t in 0..16 {
         out[j + t] = ys[t];
-        t = t + 1;
     }
 }
 
@@ -53,10 +49,8 @@ fn tail(src: &[f32], row: usize, at0: usize, ws: &[f64], out: &mut [f32], from: 
     ensures by_index { (j : ℕ) → from ≤ j → j < length out.old → get_or out.new j nan ≡ column_value ws.now src.now (at0 + j) row (length ws.now) }
     ensures by_index_2 { (j : ℕ) → j < from → get_or out.new j nan ≡ get_or out.old j nan }
 {
-    let mut j = from;
-    while j < out.len() {
+    for j in from..out.len() {
         out[j] = pixel(src, row, at0 + j, ws);
-        j = j + 1;
     }
 }
 
@@ -76,17 +70,16 @@ pub fn fill(
     ensures result_len { (length result ≡ 4) × Flags 4 result × (Zeros 4 result → Zeros 4 z0) }
     ensures at_most { Zeros 4 result → (j : ℕ) → j < length out.old / 16 * 16 → AtMost (column_value ws.now src.now (at0 + j) row (length ws.now)) (2 ^ 128) }
 {
-    let full = out.len() / 16 * 16;
+    let n = out.len() / 16;
     let mut zz = z0;
-    let mut j: usize = 0;
-    while j < full {
+    for q in 0..n {
+        let j = q * 16;
         let ss = sums16(src, row, at0 + j, ws);
         let ys = narrow16(ss);
-        let m = sixteen(zz, ys);
-        zz = m;
+        let more = sixteen(zz, ys);
+        zz = more;
         put16(ys, out, j);
-        j = j + 16;
     }
-    tail(src, row, at0, ws, out, j);
+    tail(src, row, at0, ws, out, n * 16);
     zz
 }

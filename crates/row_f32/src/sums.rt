@@ -26,11 +26,9 @@ pub(crate) fn sum(src: &[f32], row: usize, at0: usize, ws: &[f64]) -> f64
 {
     let mut acc: f64 = 0.0;
     let mut at = at0;
-    let mut k: usize = 0;
-    while k < ws.len() {
-        acc = step(acc, ws[k], src[at]);
-        at = at + row;
-        k = k + 1;
+    for w in ws {
+        acc = step(acc, *w, src[at]);
+        at += row;
     }
     acc
 }
@@ -45,10 +43,8 @@ fn add16(ss: [f64; 16], src: &[f32], row: usize, at0: usize, ws: &[f64], k: usiz
     let at = at0 + k * row;
     let w = ws[k];
     let mut r = ss;
-    let mut t: usize = 0;
-    while t < 16 {
+    for t in 0..16 {
         r[t] = step(r[t], w, src[at + t]);
-        t = t + 1;
     }
     r
 }
@@ -73,11 +69,9 @@ fn first16(src: &[f32], row: usize, at0: usize, ws: &[f64], n: usize) -> [f64; 1
     ensures { Sums16 result ws.now src.now at0 row n }
 {
     let mut ss: [f64; 16] = [0.0; 16];
-    let mut k: usize = 0;
-    while k < n {
+    for k in 0..n {
         let more = add16(ss, src, row, at0, ws, k);
         ss = more;
-        k = k + 1;
     }
     ss
 }
@@ -87,12 +81,11 @@ pub(crate) fn sums16(src: &[f32], row: usize, at0: usize, ws: &[f64]) -> [f64; 1
     requires { Summable ws.now src.now at0 row 16 }
     ensures { (t : ℕ) → t < 16 → get_or result t nan ≡ column_sum ws.now src.now (at0 + t) row (length ws.now) }
 {
-    let mut k = ws.len() % 4;
-    let mut ss = first16(src, row, at0, ws, k);
-    while k < ws.len() {
-        let more = add_four16(ss, src, row, at0, ws, k);
+    let first = ws.len() % 4;
+    let mut ss = first16(src, row, at0, ws, first);
+    for q in 0..ws.len() / 4 {
+        let more = add_four16(ss, src, row, at0, ws, first + q * 4);
         ss = more;
-        k = k + 4;
     }
     ss
 }

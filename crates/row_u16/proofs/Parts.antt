@@ -2,15 +2,15 @@
 -- Assumes nothing.
 use mathlib.Core.Path.{◌≡◌, ap, ◌∙◌}
 use mathlib.Core.List.{List}
-use Prim.Native.Nat.{ℕ, ◌+◌, ◌-◌, ◌^◌, ◌≤◌, ◌<◌}
-use native.Mathlib.Nat.{zero-add, le_refl}
+use Prim.Native.Nat.{ℕ, ◌+◌, ◌-◌, ◌*◌, ◌/◌, ◌^◌, ◌≤◌, ◌<◌}
+use native.Mathlib.Nat.{zero-add, le_refl, div-mul-le_self}
 use native.Mathlib.Omega.{arith}
 use lib.IntN.{ℤ, pos, nat_abs, ◌+ℤ◌}
 use lib.Ieee.{Float, nan}
 use lib.ListN.{length, get_or}
 use lib.Signed.{shr_z}
 use Rattle.lists.specs.Tab.{tab}
-use Rattle.lists.proofs.TabLaws.{Written, get_d_tab, tab_ext, front_past}
+use Rattle.lists.proofs.TabLaws.{Written, get_d_tab, tab_ext, front_past, row_end}
 use Rattle.floats.specs.Halves.{far}
 use Rattle.integers.specs.Sums.{clipped}
 use Rattle.integers.proofs.Floors.{shifted_from}
@@ -55,3 +55,7 @@ clipped_is p ws src at row old {ss} m few half es e =
 -- ---- what is not written yet is as it was
 pub not_yet : {A : Type 0} {k : ℕ} {f : ℕ → A} {old now : List A} (d : A) → Written k f old now → get_or now k d ≡ get_or old k d
 not_yet {k = k} {f = f} {old = old} d w = ap (λ (l : List _). get_or l k d) w.is ∙ front_past k f old k d (le_refl k)
+
+-- ---- the q-th of the runs of n that fit between `from` and `long` ends there
+pub turn_end : (from long q n : ℕ) → from ≤ long → q < (long - from) / n → from + q * n + n ≤ long
+turn_end from long q n f h = omega (arith, row_end q ((long - from) / n) n h, div-mul-le_self (long - from) n)

@@ -13,10 +13,8 @@ fn put_columns(ss: &[i64], p: u32, out: &mut [u16])
     requires out_in_bounds { length out.old ≤ length ss.now }
     ensures { out.new ≡ tab 0 (length out.old) (clipped_at 65535 ss.now p) }
 {
-    let mut t: usize = 0;
-    while t < out.len() {
-        out[t] = clip(ss[t], p);
-        t = t + 1;
+    for (t, sample) in out.iter_mut().enumerate() {
+        *sample = clip(ss[t], p);
     }
 }
 
@@ -35,29 +33,8 @@ fn chunk(src: &[u16], row: usize, at0: usize, ws: &[i32], p: u32, ss: &mut [i64]
     put_columns(ss, p, out);
 }
 
-// The columns from `from` on, one by one. What stands before `from` is done.
-fn tail(src: &[u16], row: usize, at0: usize, ws: &[i32], p: u32, out: &mut [u16], from: usize)
-    requires le_p { (1 ≤ p) × (p ≤ 45) }
-    requires row_bound { row ≤ 32768 }
-    requires ws_len_bound { length ws.now ≤ 8192 }
-    requires by_index { (k : ℕ) → k < length ws.now → at0 + k * row + length out.old ≤ length src.now }
-    requires out_bound { at0 + length out.old < 2 ^ 63 }
-    requires from_in_bounds { from ≤ length out.old }
-    requires out_value { out.old ≡ front from (row_value 65535 p ws.now src.now at0 row (length ws.now)) out.old }
-    ensures { out.new ≡ tab 0 (length out.old) (row_value 65535 p ws.now src.now at0 row (length ws.now)) }
-{
-    let init = half(p);
-    let mut j = from;
-    while j < out.len() {
-        let e = j + 1;
-        let mut ss: [i64; 1] = [init; 1];
-        chunk(src, row, at0 + j, ws, p, &mut ss, &mut out[j..e]);
-        j = e;
-    }
-}
-
-// The columns from `from` on, four side by side; the first column that is left. What stands before `from` is done.
-fn fours(
+// N columns side by side in integers, as often as `out` has N from `from` on; the first column that is left. What stands before `from` is done.
+fn chunks<const N: usize>(
     src: &[u16],
     row: usize,
     at0: usize,
@@ -66,6 +43,7 @@ fn fours(
     out: &mut [u16],
     from: usize,
 ) -> usize
+    requires wide { (1 ≤ N) × (N ≤ 16) }
     requires le_p { (1 ≤ p) × (p ≤ 45) }
     requires row_bound { row ≤ 32768 }
     requires ws_len_bound { length ws.now ≤ 8192 }
@@ -73,39 +51,17 @@ fn fours(
     requires out_bound { at0 + length out.old < 2 ^ 63 }
     requires from_in_bounds { from ≤ length out.old }
     requires out_value { out.old ≡ front from (row_value 65535 p ws.now src.now at0 row (length ws.now)) out.old }
-    ensures upper_bound { result ≤ length out.old }
+    ensures upper_bound { (result ≤ length out.old) × (length out.old < result + N) }
     ensures out_after { out.new ≡ front result (row_value 65535 p ws.now src.now at0 row (length ws.now)) out.old }
 {
     let init = half(p);
-    let mut j = from;
-    while 4 <= out.len() - j {
-        let e = j + 4;
-        let mut ss: [i64; 4] = [init; 4];
-        chunk(src, row, at0 + j, ws, p, &mut ss, &mut out[j..e]);
-        j = e;
+    let n = (out.len() - from) / N;
+    for q in 0..n {
+        let j = from + q * N;
+        let mut ss: [i64; N] = [init; N];
+        chunk(src, row, at0 + j, ws, p, &mut ss, &mut out[j..j + N]);
     }
-    j
-}
-
-// Sixteen columns side by side in integers; the first column that is left.
-fn long_chunks(src: &[u16], row: usize, at0: usize, ws: &[i32], p: u32, out: &mut [u16]) -> usize
-    requires le_p { (1 ≤ p) × (p ≤ 45) }
-    requires row_bound { row ≤ 32768 }
-    requires ws_len_bound { length ws.now ≤ 8192 }
-    requires by_index { (k : ℕ) → k < length ws.now → at0 + k * row + length out.old ≤ length src.now }
-    requires out_bound { at0 + length out.old < 2 ^ 63 }
-    ensures upper_bound { result ≤ length out.old }
-    ensures out_after { out.new ≡ front result (row_value 65535 p ws.now src.now at0 row (length ws.now)) out.old }
-{
-    let init = half(p);
-    let mut j: usize = 0;
-    while 16 <= out.len() - j {
-        let e = j + 16;
-        let mut ss: [i64; 16] = [init; 16];
-        chunk(src, row, at0 + j, ws, p, &mut ss, &mut out[j..e]);
-        j = e;
-    }
-    j
+    from + n * N
 }
 
 // Sixteen columns side by side in doubles, in which the sums of up to 32 lines are exact; the first column that is left.
@@ -120,14 +76,13 @@ fn short_chunks(src: &[u16], row: usize, at0: usize, ws: &[i32], p: u32, out: &m
 {
     let top = rounding::scaled(0x40ef_ffe0_0000_0000, p);
     let big = rounding::scaled(0x4330_0000_0000_0000, p);
-    let mut j: usize = 0;
-    while 16 <= out.len() - j {
-        let e = j + 16;
+    let n = out.len() / 16;
+    for q in 0..n {
+        let j = q * 16;
         let ss = doubles::sums16(src, row, at0 + j, ws);
-        rounding::put16(ss, top, big, &mut out[j..e]);
-        j = e;
+        rounding::put16(ss, top, big, &mut out[j..j + 16]);
     }
-    j
+    n * 16
 }
 
 // Sixteen columns side by side, in doubles where they are exact; the first column that is left.
@@ -143,7 +98,7 @@ fn sixteens(src: &[u16], row: usize, at0: usize, ws: &[i32], p: u32, out: &mut [
     if ws.len() <= 32 {
         short_chunks(src, row, at0, ws, p, out)
     } else {
-        long_chunks(src, row, at0, ws, p, out)
+        chunks::<16>(src, row, at0, ws, p, out, 0)
     }
 }
 
@@ -157,6 +112,6 @@ pub fn fill(src: &[u16], row: usize, at0: usize, ws: &[i32], p: u32, out: &mut [
     ensures written { out.new ≡ tab 0 (length out.old) (row_value 65535 p ws.now src.now at0 row (length ws.now)) }
 {
     let a = sixteens(src, row, at0, ws, p, out);
-    let b = fours(src, row, at0, ws, p, out, a);
-    tail(src, row, at0, ws, p, out, b);
+    let b = chunks::<4>(src, row, at0, ws, p, out, a);
+    chunks::<1>(src, row, at0, ws, p, out, b);
 }

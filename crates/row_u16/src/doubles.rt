@@ -35,10 +35,8 @@ fn add16(ss: [f64; 16], src: &[u16], at: usize, w: f64) -> [f64; 16]
     ensures by_index { (t : ℕ) → t < 16 → get_or result t nan ≡ add binary64 (get_or ss t nan) (mul binary64 (of_int binary64 (pos (get_or src.now (at + t) 0))) w) }
 {
     let mut r = ss;
-    let mut t: usize = 0;
-    while t < 16 {
+    for t in 0..16 {
         r[t] = added(r[t], w, src[at + t]);
-        t = t + 1;
     }
     r
 }
@@ -53,12 +51,10 @@ pub(crate) fn sums16(src: &[u16], row: usize, at0: usize, ws: &[i32]) -> [f64; 1
 {
     let mut ss: [f64; 16] = [0.5; 16];
     let mut at = at0;
-    let mut k: usize = 0;
-    while k < ws.len() {
-        let n = add16(ss, src, at, weight(ws[k]));
-        ss = n;
-        at = at + row;
-        k = k + 1;
+    for w in ws {
+        let more = add16(ss, src, at, weight(*w));
+        ss = more;
+        at += row;
     }
     ss
 }

@@ -58,9 +58,7 @@ pub(crate) fn put16(ss: [f64; 16], top: f64, big: f64, out: &mut [u16])
     requires out_len { length out.old ≡ 16 }
     ensures { out.new ≡ tab 0 16 (cut_at ss top big) }
 {
-    let mut t: usize = 0;
-    while t < out.len() {
-        out[t] = cut(ss[t], top, big);
-        t = t + 1;
+    for (t, sample) in out.iter_mut().enumerate() {
+        *sample = cut(ss[t], top, big);
     }
 }

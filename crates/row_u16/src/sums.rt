@@ -11,10 +11,8 @@ fn add_line(src: &[u16], at: usize, w: i32, ss: &mut [i64])
     requires by_index { (t : ℕ) → t < length ss.old → nat_abs (get_or ss.old t (pos 0)) ≤ 2 ^ 62 }
     ensures { ss.new ≡ tab 0 (length ss.old) (step_at ss.old w src.now at) }
 {
-    let mut t: usize = 0;
-    while t < ss.len() {
-        ss[t] = step(ss[t], w, src[at + t]);
-        t = t + 1;
+    for (t, sum) in ss.iter_mut().enumerate() {
+        *sum = step(*sum, w, src[at + t]);
     }
 }
 
@@ -27,10 +25,8 @@ pub(crate) fn add_lines(src: &[u16], row: usize, at0: usize, ws: &[i32], ss: &mu
     ensures { ss.new ≡ tab 0 (length ss.old) (summed_at ss.old ws.now src.now at0 row (length ws.now)) }
 {
     let mut at = at0;
-    let mut k: usize = 0;
-    while k < ws.len() {
-        add_line(src, at, ws[k], ss);
-        at = at + row;
-        k = k + 1;
+    for w in ws {
+        add_line(src, at, *w, ss);
+        at += row;
     }
 }

@@ -13,10 +13,8 @@ fn put32(ss: [i32; 32], p: u32, out: &mut [u8])
     requires out_len { length out.old ≡ 32 }
     ensures { out.new ≡ tab 0 32 (clipped_at 255 ss p) }
 {
-    let mut t: usize = 0;
-    while t < out.len() {
-        out[t] = clip(ss[t], p);
-        t = t + 1;
+    for (t, sample) in out.iter_mut().enumerate() {
+        *sample = clip(ss[t], p);
     }
 }
 
@@ -31,10 +29,8 @@ fn tail(src: &[u8], row: usize, at0: usize, ws: &[i16], p: u32, out: &mut [u8], 
     requires out_value { out.old ≡ front from (row_value 255 p ws.now src.now at0 row (length ws.now)) out.old }
     ensures { out.new ≡ tab 0 (length out.old) (row_value 255 p ws.now src.now at0 row (length ws.now)) }
 {
-    let mut j = from;
-    while j < out.len() {
+    for j in from..out.len() {
         out[j] = pixel(src, row, at0 + j, ws, p);
-        j = j + 1;
     }
 }
 
@@ -49,14 +45,13 @@ fn chunks(src: &[u8], row: usize, at0: usize, ws: &[i16], p: u32, out: &mut [u8]
     ensures out_after { out.new ≡ front result (row_value 255 p ws.now src.now at0 row (length ws.now)) out.old }
 {
     let init = half(p);
-    let mut j: usize = 0;
-    while 32 <= out.len() - j {
-        let e = j + 32;
+    let n = out.len() / 32;
+    for q in 0..n {
+        let j = q * 32;
         let ss = sums32(init, src, row, at0 + j, ws);
-        put32(ss, p, &mut out[j..e]);
-        j = e;
+        put32(ss, p, &mut out[j..j + 32]);
     }
-    j
+    n * 32
 }
 
 // One window's row, for the columns that `out` has.

@@ -15,11 +15,9 @@ fn sum(init: i32, src: &[u8], row: usize, at0: usize, ws: &[i16]) -> i32
 {
     let mut acc = init;
     let mut at = at0;
-    let mut k: usize = 0;
-    while k < ws.len() {
-        acc = step(acc, ws[k], src[at]);
-        at = at + row;
-        k = k + 1;
+    for w in ws {
+        acc = step(acc, *w, src[at]);
+        at += row;
     }
     acc
 }
@@ -47,10 +45,8 @@ fn add32(ss: [i32; 32], src: &[u8], at: usize, w: i16) -> [i32; 32]
         return ss;
     }
     let mut r = ss;
-    let mut t: usize = 0;
-    while t < 32 {
+    for t in 0..32 {
         r[t] = step(r[t], w, src[at + t]);
-        t = t + 1;
     }
     r
 }
@@ -64,12 +60,10 @@ pub(crate) fn sums32(init: i32, src: &[u8], row: usize, at0: usize, ws: &[i16]) 
 {
     let mut ss: [i32; 32] = [init; 32];
     let mut at = at0;
-    let mut k: usize = 0;
-    while k < ws.len() {
-        let n = add32(ss, src, at, ws[k]);
-        ss = n;
-        at = at + row;
-        k = k + 1;
+    for w in ws {
+        let more = add32(ss, src, at, *w);
+        ss = more;
+        at += row;
     }
     ss
 }

@@ -7,8 +7,7 @@ use native.Mathlib.Omega.{arith}
 use lib.ListN.{length, drop, length-append, length-drop}
 use lib.Seq.{drop-drop}
 use Rattle.text.specs.Text.{decimal}
-use Rattle.scan.specs.declared.Number.{Number}
-use Rattle.scan.specs.declared.Number.TheVariants.{Read, Not}
+use Rattle.std.specs.Prelude.{Result, Ok, Err}
 use Rattle.text.specs.Words.{common}
 use Rattle.scan.specs.Form.{Form, Found, Stopped, Apart}
 use Rattle.scan.specs.Forms.{fixed, and_then}
@@ -62,10 +61,10 @@ module _ (key : List ℕ) (low high end : ℕ) where
       (stopped_first (fixed key) (λ (u : Unit {0}). numbers low high end) (λ a good. (low, (le_refl low, l))) s)
 
   -- the key is there: what is scanned after it
-  pub field_scans : {text : List ℕ} {at mid : ℕ} (r : Number) → Found (fixed key) text at tt mid → Scans (numbers low high end) text mid r → Scans (fields key low high end) text at r
-  field_scans (Read n next) f g =
+  pub field_scans : {text : List ℕ} {at mid : ℕ} (r : Result (ℕ × ℕ) ℕ) → Found (fixed key) text at tt mid → Scans (numbers low high end) text mid r → Scans (fields key low high end) text at r
+  field_scans (Ok found) f g =
       let both = found_then (fixed key) (λ (u : Unit {0}). numbers low high end) f g in
       record { good = g.good; place = both.place; begins = both.begins }
-  field_scans (Not stop) f g =
+  field_scans (Err stop) f g =
       stopped_same (and_then (fixed key) (λ (u : Unit {0}). numbers low high end)) (fields key low high end) there back
       (stopped_then (fixed key) (λ (u : Unit {0}). numbers low high end) (apart_key key) f g)

@@ -4,8 +4,6 @@ ghost use Rattle.text.specs.Text.{digit_count_value};
 ghost use Rattle.scan.specs.Number.{numbers, GoesOn, NextDigit, NoDigit};
 ghost use Rattle.scan.specs.Answer.{Tells, Scans};
 
-use crate::Number;
-
 // Whether some number from low to high begins with the digits of n, n itself among them.
 fn goes_on(low: u64, high: u64, n: u64) -> bool
     requires { (low ≤ high) × (high < 2 ^ 56) × (1 ≤ n) × (n < 2 ^ 60) }
@@ -13,6 +11,7 @@ fn goes_on(low: u64, high: u64, n: u64) -> bool
 {
     let mut least = n;
     let mut past = n + 1;
+    // A `while`: the least number of one digit more is ten times as large, and no range has such steps.
     while least <= high {
         if low < past {
             return true;
@@ -48,25 +47,29 @@ fn digit_goes_on(low: u64, high: u64, count: usize, n: u64, b: u8) -> bool
 }
 
 // The number from low to high at a place of the text, with the byte that ends it.
-pub fn take_number(low: u64, high: u64, end: u8, text: &[u8], at: usize) -> Number
+pub fn take_number(
+    low: u64,
+    high: u64,
+    end: u8,
+    text: &[u8],
+    at: usize,
+) -> Result<(u64, usize), usize>
     requires { (low ≤ high) × (high < 2 ^ 56) × NoDigit end × (at ≤ length text.now) }
     ensures answer { Scans (numbers low high end) text.now at result }
 {
-    let mut p = at;
     let mut n: u64 = 0;
-    while p < text.len() {
+    for p in at..text.len() {
         let b = text[p];
         if b == end {
             if (at < p) & (low <= n) {
-                return Number::Read(n, p + 1);
+                return Ok((n, p + 1));
             }
-            return Number::Not(p);
+            return Err(p);
         }
         if !digit_goes_on(low, high, p - at, n, b) {
-            return Number::Not(p);
+            return Err(p);
         }
         n = n * 10 + (b - 48) as u64;
-        p += 1;
     }
-    Number::Not(p)
+    Err(text.len())
 }

@@ -1,4 +1,5 @@
-// `scan`: pieces of text found at a place of a lent text, or the place where the text stops being like one. Nothing is kept of the text.
+// `scan`: pieces of text looked for at a place of a lent text. A scanner answers `Ok` with the place after the piece, and with the value where the piece writes one, or
+// `Err` with the place where the text stops being like such a piece. Nothing is kept of the text.
 // The functions are workers of the readers of sheets: the caller shows that the place is inside the text and that the range has a number.
 #![tactic(auto)]
 
@@ -9,28 +10,7 @@ mod signs;
 mod words;
 
 pub use digits::take_number;
-pub use fields::{number_stop, take_field};
+pub use fields::take_field;
 pub use known::take_known;
 pub use signs::take_signed;
 pub use words::take_key;
-
-// A number and the place after it, or the place where the text stops being like one.
-#[derive(Drop)]
-pub enum Number {
-    Read(u64, usize),
-    Not(usize),
-}
-
-// The same of a signed number.
-#[derive(Drop)]
-pub enum Signed {
-    Whole(i64, usize),
-    Never(usize),
-}
-
-// The place after a piece, or the place where the text stops being like one.
-#[derive(Drop)]
-pub enum Place {
-    Past(usize),
-    Stop(usize),
-}

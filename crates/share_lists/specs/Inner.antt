@@ -1,16 +1,11 @@
 -- What the functions of `share_lists` give. Cited by their contracts only. Definitions only. Assumes nothing.
-use Rattle.std.specs.Prelude.{cond, ◌||◌, List, [], ◌∷◌, ℕ, ◌+◌, ◌*◌, ◌≤◌, get_or}
+use Rattle.std.specs.Prelude.{cond, ◌||◌, List, [], ◌∷◌, ℕ, ◌+◌, ◌*◌, ◌≤◌, get_or, Result, Ok, Err, Option, Some, None}
 use Rattle.text.specs.Text.{laid}
 use Rattle.plans.specs.declared.Request.{Request}
-use Rattle.coefficients.specs.declared.Built.{Built}
-use Rattle.coefficients.specs.declared.Built.TheVariants.{Done}
+use Rattle.coefficients.specs.declared.NotBuilt.{NotBuilt}
 use Rattle.made_sets.specs.Lent.{side_of}
-use Rattle.store_sets.specs.declared.Outcome.{Outcome}
-use Rattle.store_sets.specs.declared.Outcome.TheVariants.{New, Old}
 use Rattle.shares.specs.Store.{closed_by, unset_by}
 use Rattle.share_lists.specs.declared.Place.{Place}
-use Rattle.share_lists.specs.declared.Found.{Found}
-use Rattle.share_lists.specs.declared.Found.TheVariants.{Nothing, At}
 
 -- where a client's set stands, by the store's numbers
 module _ (numbers : List ℕ) where
@@ -28,24 +23,24 @@ module _ (numbers : List ℕ) where
     tail = c * 8192 + number c 2;
   }
 
-  unfoldable pub found_in : ℕ → ℕ → ℕ → ℕ → ℕ → Found
-  found_in slots starts sizes excesses c = cond (closed_by numbers slots starts sizes excesses c || unset_by (number c 0) (number c 2) (number c 3)) Nothing (At (place_of c))
+  unfoldable pub found_in : ℕ → ℕ → ℕ → ℕ → ℕ → Option Place
+  found_in slots starts sizes excesses c = cond (closed_by numbers slots starts sizes excesses c || unset_by (number c 0) (number c 2) (number c 3)) None (Some (place_of c))
 
 -- a new set has at most 8,192 windows
-abbrev pub Few : Outcome → ℕ → Type 0
-Few (New window precision) n = n ≤ 8192
-Few (Old answer) n = Unit {0}
+abbrev pub Few : Result (ℕ × ℕ) NotBuilt → ℕ → Type 0
+Few (Ok (window, precision)) n = n ≤ 8192
+Few (Err error) n = Unit {0}
 
 -- the answer of an outcome
-abbrev pub answer_by : Outcome → Built
-answer_by (New window precision) = Done window
-answer_by (Old answer) = answer
+abbrev pub answer_by : Result (ℕ × ℕ) NotBuilt → Result ℕ NotBuilt
+answer_by (Ok (window, precision)) = Ok window
+answer_by (Err error) = Err error
 
 -- the numbers afterwards, and a list in which a new set's starts or sizes are laid
-unfoldable pub numbers_by : Outcome → ℕ → Request → List ℕ → List ℕ
-numbers_by (New window precision) c q old = laid old (c * 5 + 1) (side_of q ∷ q.output ∷ window ∷ precision ∷ [])
-numbers_by (Old answer) c q old = old
+unfoldable pub numbers_by : Result (ℕ × ℕ) NotBuilt → ℕ → Request → List ℕ → List ℕ
+numbers_by (Ok (window, precision)) c q old = laid old (c * 5 + 1) (side_of q ∷ q.output ∷ window ∷ precision ∷ [])
+numbers_by (Err error) c q old = old
 
-unfoldable pub laid_by : Outcome → ℕ → List ℕ → List ℕ → List ℕ
-laid_by (New window precision) c lines old = laid old (c * 8192) lines
-laid_by (Old answer) c lines old = old
+unfoldable pub laid_by : Result (ℕ × ℕ) NotBuilt → ℕ → List ℕ → List ℕ → List ℕ
+laid_by (Ok (window, precision)) c lines old = laid old (c * 8192) lines
+laid_by (Err error) c lines old = old

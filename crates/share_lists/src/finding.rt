@@ -3,9 +3,9 @@ ghost use Rattle.std.specs.Prelude.{◌≡◌, ◌+◌, ◌*◌, ◌^◌, ◌≤
 ghost use Rattle.shares.specs.Store.{unset_by};
 ghost use Rattle.share_lists.specs.Inner.{place_of, found_in};
 
+use crate::Place;
 use crate::judging::closed;
 use crate::places::{line_base, many, number, slot_base, wide};
-use crate::{Found, Place};
 
 // Where a client's set stands, or nothing, for any numbers and counts of the lists.
 pub fn find(
@@ -15,16 +15,16 @@ pub fn find(
     sizes: usize,
     excesses: usize,
     client: u32,
-) -> Found
+) -> Option<Place>
     ensures answer { result ≡ found_in numbers.now slots starts sizes excesses client }
 {
     if closed(numbers, slots, starts, sizes, excesses, client) {
-        return Found::Nothing;
+        return None;
     }
     if has_none(numbers, client) {
-        return Found::Nothing;
+        return None;
     }
-    Found::At(locate(numbers, client))
+    Some(locate(numbers, client))
 }
 
 // Whether a client has no set in its share.

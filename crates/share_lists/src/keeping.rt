@@ -4,13 +4,13 @@ ghost use Rattle.text.specs.Text.{laid};
 ghost use Rattle.share_lists.specs.Inner.{Few, answer_by, numbers_by, laid_by};
 
 use crate::places::{line_base, wide};
-use coefficients::Built;
+use coefficients::NotBuilt;
 use plans::Request;
-use store_sets::{Outcome, side_of};
+use store_sets::side_of;
 
 // The answer, and the lists with a new set's numbers, starts and sizes; where there is none they are as they were.
 pub fn keep(
-    made: Outcome,
+    made: Result<(u32, u32), NotBuilt>,
     numbers: &mut [u32],
     starts: &mut [u32],
     sizes: &mut [u32],
@@ -18,7 +18,7 @@ pub fn keep(
     request: Request,
     firsts: &[u32],
     counts: &[u32],
-) -> Built
+) -> Result<u32, NotBuilt>
     requires numbers_len_1 { length numbers.old ≡ 10 }
     requires numbers_len_2 { client ≤ 1 }
     requires numbers_len_3 { length starts.old ≡ 16384 }
@@ -31,9 +31,7 @@ pub fn keep(
     ensures written2 { starts.new ≡ laid_by made client (take request.output firsts.now) starts.old }
     ensures written3 { sizes.new ≡ laid_by made client (take request.output counts.now) sizes.old }
 {
-    let Outcome::New(window, precision) = made else {
-        return old_answer(made);
-    };
+    let (window, precision) = made?;
     label(
         numbers,
         client,
@@ -46,17 +44,7 @@ pub fn keep(
     let n = wide(request.output);
     copy(firsts, n, starts, b);
     copy(counts, n, sizes, b);
-    Built::Done(window)
-}
-
-// The answer of an outcome.
-fn old_answer(made: Outcome) -> Built
-    ensures answer { result ≡ answer_by made }
-{
-    match made {
-        Outcome::New(window, _) => Built::Done(window),
-        Outcome::Old(answer) => answer,
-    }
+    Ok(window)
 }
 
 // The four numbers of a client's set.
@@ -78,9 +66,7 @@ fn copy(src: &[u32], n: usize, out: &mut [u32], at: usize)
     requires fact_2 { at + n ≤ length out.old }
     ensures written { out.new ≡ laid out.old at (take n src.now) }
 {
-    let mut k: usize = 0;
-    while k < n {
+    for k in 0..n {
         out[at + k] = src[k];
-        k += 1;
     }
 }

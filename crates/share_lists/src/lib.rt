@@ -23,9 +23,3 @@ pub struct Place {
     pub head: usize,
     pub tail: usize,
 }
-
-#[derive(Drop)]
-pub enum Found {
-    Nothing,
-    At(Place),
-}

@@ -5,8 +5,9 @@ ghost use Rattle.std.specs.Prelude.{◌≡◌, ◌≤◌, length};
 ghost use Rattle.vertical.specs.U16.{passed_u16, written_u16};
 ghost use Rattle.share_passes.specs.Inner.{set_in};
 
+use refusal::Refusal;
 use share_lists::Place;
-use vertical::{Frame, Passed};
+use vertical::Frame;
 use vertical_u16::vert_convolution_u16;
 
 // The pass over the slots, starts, sizes and excesses of a place.
@@ -21,7 +22,7 @@ pub fn pass_at(
     first: u32,
     count: u32,
     out: &mut [u16],
-) -> Passed
+) -> Result<(), Refusal>
     requires from_le_to { (at.from ≤ at.to) × ((at.to ≤ length slots.now) × ((at.head ≤ at.tail) × (at.tail ≤ length starts.now))) }
     requires tail_in_bounds { (at.tail ≤ length sizes.now) × (at.tail ≤ length excesses.now) }
     ensures answer { result ≡ passed_u16 (set_in at slots.now starts.now sizes.now excesses.now) (length src.now) row first count (length out.old) }

@@ -1,5 +1,6 @@
 -- What a new set is, once `make` has said that there is one, and that the lists which `place` leaves are those of `after`, list by list. Cited by the proof of `place`.
 -- Assumes nothing.
+use Rattle.std.specs.Prelude.{Result, Ok, Err}
 use mathlib.Core.Path.{◌≡◌, refl, sym, ap, ◌∙◌, subst}
 use mathlib.Core.Bool.{false, ◌||◌}
 use mathlib.Core.List.{List, [], ◌∷◌, ◌++◌}
@@ -17,19 +18,15 @@ use Rattle.lists.proofs.TabLaws.{length_tab}
 use Rattle.text.specs.Text.{laid}
 use Rattle.windows.specs.Set.{Stored, windows}
 use Rattle.plans.specs.declared.Request.{Request}
-use Rattle.coefficients.specs.declared.Built.{Built}
-use Rattle.coefficients.specs.declared.Built.TheVariants.{Done, Blank, Refused}
+use Rattle.coefficients.specs.declared.NotBuilt.{NotBuilt}
 use Rattle.coefficients.specs.Request.{built_of, weights_of, starts_of, sizes_of}
-use Rattle.normalizer.specs.declared.Normalized.{Normalized}
-use Rattle.normalizer.specs.declared.Normalized.TheVariants.{Done as Normal, Refused as NormalRefused}
+use Rattle.refusal.specs.declared.Refusal.{Refusal}
 use Rattle.made_sets.specs.Made.{planned_set, stored_at, Made, new, none, after_normal, made_of, answer_of}
 use Rattle.made_sets.specs.Lent.{side_of, lent_by}
 use Rattle.made_sets.proofs.Planned.{kept_by, planned, plan, room, starts_left, sizes_left}
-use Rattle.made_sets.proofs.Choice.{made_done}
+use Rattle.made_sets.proofs.Choice.{not_built, made_done}
 use Rattle.made_sets.proofs.Made.{FitsMade, weights_room, made_fits}
-use Rattle.store_sets.specs.declared.Outcome.{Outcome}
 use Rattle.store_sets.specs.Inner.{outcome, slots_after, excesses_after}
-use Rattle.store_sets.proofs.Making.{made_old}
 use Rattle.shares.specs.Store.{Store, share, slot_base, line_base, closed}
 use Rattle.shares.specs.Scratch.{Scratch, too_short, built_in}
 use Rattle.shares.specs.Machine.{with_set, after}
@@ -49,10 +46,10 @@ module _ (q : Request) (n : ℕ) where
   NewMade (new stored) = NewSet stored
   NewMade (none answer) = Unit {0}
 
-  by_normal : (w : ℕ) (done : built_of q n 8192 8192 ≡ Done w) (y : Normalized) → NewMade (after_normal (planned_set (plan q n w done)) y)
+  by_normal : (w : ℕ) (done : built_of q n 8192 8192 ≡ Ok w) (y : Result ℕ Refusal) → NewMade (after_normal (planned_set (plan q n w done)) y)
   unfolding after_normal stored_at planned_set
-  by_normal w done (NormalRefused refusal) = tt
-  by_normal w done (Normal precision) = record {
+  by_normal w done (Err refusal) = tt
+  by_normal w done (Ok precision) = record {
     lines_are = (kept_by q (plan q n w done) (planned q n w done).ready).side_is;
     windows_are = length_tab 0 _ _ ∙ (room q n w done).windows_are;
     few = (room q n w done).few;
@@ -60,10 +57,9 @@ module _ (q : Request) (n : ℕ) where
     sizes_are = λ cs. sym (sizes_left q n w done cs);
   }
 
-  by_built : (y : Built) → built_of q n 8192 8192 ≡ y → NewMade (made_of q n)
-  by_built (Done w) e = subst NewMade (sym (made_done q n w e)) (by_normal w e _)
-  by_built (Blank line) e = subst NewMade (sym (made_old q n (Blank line) (Blank line) e refl)) tt
-  by_built (Refused refusal) e = subst NewMade (sym (made_old q n (Refused refusal) (Refused refusal) e refl)) tt
+  by_built : (y : Result ℕ NotBuilt) → built_of q n 8192 8192 ≡ y → NewMade (made_of q n)
+  by_built (Ok w) e = subst NewMade (sym (made_done q n w e)) (by_normal w e _)
+  by_built (Err error) e = subst NewMade (sym (not_built q n error e)) tt
 
   pub new_made : NewMade (made_of q n)
   new_made = by_built (built_of q n 8192 8192) refl
@@ -175,7 +171,7 @@ module _ (s : Store) (c : ℕ) (lent : Scratch) (free : closed s c || too_short 
         excesses_end s c q (length part_slots) here (made_fits q (length part_slots)) b (b + 8192 - b) eb (omega arith) (omega (arith, ends_in_excesses b eb))
         ∙ ap (λ (m : Made). (after s c m).excesses) same
 
-    pub placed : (made : Outcome) (slots excesses : List ℤ) (doubles : List Float) (firsts counts numbers starts sizes : List ℕ) (answer : Built)
+    pub placed : (made : Result (ℕ × ℕ) NotBuilt) (slots excesses : List ℤ) (doubles : List Float) (firsts counts numbers starts sizes : List ℕ) (answer : Result ℕ NotBuilt)
         → made ≡ outcome here → slots ≡ slots_after here part_slots → excesses ≡ excesses_after here part_excesses
         → doubles ≡ lent_by (length part_slots) (weights_of q (length part_slots) 8192 8192) lent.doubles
         → firsts ≡ lent_by 8192 (starts_of q (length part_slots) 8192 8192) lent.firsts
@@ -196,13 +192,13 @@ module _ (s : Store) (c : ℕ) (lent : Scratch) (free : closed s c || too_short 
         let new = new_made q (length part_slots) in (
           ea ∙ ap answer_by em ∙ answer_is here ∙ ap answer_of same,
           (
-            en ∙ ap (λ (o : Outcome). numbers_by o c q s.numbers) em ∙ numbers_end s c q (length part_slots) here new ∙ ap (λ (m : Made). (after s c m).numbers) same,
+            en ∙ ap (λ (o : Result (ℕ × ℕ) NotBuilt). numbers_by o c q s.numbers) em ∙ numbers_end s c q (length part_slots) here new ∙ ap (λ (m : Made). (after s c m).numbers) same,
             (
               ap (λ (l : List ℤ). take a s.slots ++ (l ++ drop (a + r - a) (drop a s.slots))) es ∙ slots_back,
               (
-                est ∙ ap (λ (o : Outcome). laid_by o c (take q.output firsts) s.starts) em ∙ starts_end s c q (length part_slots) here new lent.firsts firsts ef ∙ ap (λ (m : Made). (after s c m).starts) same,
+                est ∙ ap (λ (o : Result (ℕ × ℕ) NotBuilt). laid_by o c (take q.output firsts) s.starts) em ∙ starts_end s c q (length part_slots) here new lent.firsts firsts ef ∙ ap (λ (m : Made). (after s c m).starts) same,
                 (
-                  esz ∙ ap (λ (o : Outcome). laid_by o c (take q.output counts) s.sizes) em ∙ sizes_end s c q (length part_slots) here new lent.counts counts ec ∙ ap (λ (m : Made). (after s c m).sizes) same,
+                  esz ∙ ap (λ (o : Result (ℕ × ℕ) NotBuilt). laid_by o c (take q.output counts) s.sizes) em ∙ sizes_end s c q (length part_slots) here new lent.counts counts ec ∙ ap (λ (m : Made). (after s c m).sizes) same,
                   (
                     ap (λ (l : List ℤ). take b s.excesses ++ (l ++ drop (b + 8192 - b) (drop b s.excesses))) ex ∙ excesses_back,
                     (

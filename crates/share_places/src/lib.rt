@@ -8,7 +8,7 @@ ghost use Rattle.shares.specs.Store.{store_of, share, closed};
 ghost use Rattle.shares.specs.Scratch.{scratch_of, too_short, built_in};
 ghost use Rattle.shares.specs.Machine.{after};
 
-use coefficients::Built;
+use coefficients::NotBuilt;
 use plans::Request;
 use share_lists::{keep, line_base, share, slot_base};
 use store_sets::make;
@@ -25,7 +25,7 @@ pub fn place(
     doubles: &mut [f64],
     firsts: &mut [u32],
     counts: &mut [u32],
-) -> Built
+) -> Result<u32, NotBuilt>
     requires { closed (store_of numbers.old slots.old starts.old sizes.old excesses.old) client || too_short (share (store_of numbers.old slots.old starts.old sizes.old excesses.old) client) (scratch_of doubles.old firsts.old counts.old) ≡ false }
     ensures answer { result ≡ answer_of (made_of request (share (store_of numbers.old slots.old starts.old sizes.old excesses.old) client)) }
     ensures written { numbers.new ≡ (after (store_of numbers.old slots.old starts.old sizes.old excesses.old) client (made_of request (share (store_of numbers.old slots.old starts.old sizes.old excesses.old) client))).numbers }

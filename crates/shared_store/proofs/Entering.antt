@@ -1,4 +1,5 @@
 -- A set of a retired filter, one that is barred, and one that is neither: what `put` answers and leaves, by the two tests that it asks first. Cited by the proof of `put`. Assumes nothing.
+use Rattle.std.specs.Prelude.{Result, Err}
 use mathlib.Core.Path.{◌≡◌, refl, sym, ap, ◌∙◌}
 use mathlib.Core.Bool.{true, false, ◌||◌}
 use mathlib.Core.List.{List}
@@ -8,8 +9,8 @@ use lib.IntN.{ℤ}
 use Rattle.refusal.specs.declared.Refusal.TheVariants.{DoesNotFit, RetiredFilter}
 use Rattle.filters.specs.Names.{is_retired}
 use Rattle.plans.specs.declared.Request.{Request}
-use Rattle.coefficients.specs.declared.Built.{Built}
-use Rattle.coefficients.specs.declared.Built.TheVariants.{Refused}
+use Rattle.coefficients.specs.declared.NotBuilt.{NotBuilt}
+use Rattle.coefficients.specs.declared.NotBuilt.TheVariants.{Refused}
 use Rattle.made_sets.specs.Made.{Made, made_of, answer_of}
 use Rattle.shares.specs.Store.{Store, share, closed, view_of}
 use Rattle.shares.specs.Scratch.{Scratch, too_short, built_in}
@@ -17,7 +18,7 @@ use Rattle.shares.specs.Machine.{entered, put_of, after, put_answer, scratch_aft
 
 module _ (s : Store) (c : ℕ) (q : Request) (lent : Scratch) where
   -- the answer and the eight lists, as a put gives them
-  abbrev pub Put : Built → List ℕ → List ℤ → List ℕ → List ℕ → List ℤ → List Float → List ℕ → List ℕ → Type 0
+  abbrev pub Put : Result ℕ NotBuilt → List ℕ → List ℤ → List ℕ → List ℕ → List ℤ → List Float → List ℕ → List ℕ → Type 0
   Put answer numbers slots starts sizes excesses doubles firsts counts =
       (answer ≡ put_answer (view_of s c) q lent)
       × ((numbers ≡ (next s (by c (puts q lent))).numbers)
@@ -29,11 +30,11 @@ module _ (s : Store) (c : ℕ) (q : Request) (lent : Scratch) where
       × ((firsts ≡ (scratch_after (view_of s c) q lent).firsts)
       × (counts ≡ (scratch_after (view_of s c) q lent).counts))))))))
 
-  pub retired_put : is_retired q.filter ≡ true → Put (Refused RetiredFilter) s.numbers s.slots s.starts s.sizes s.excesses lent.doubles lent.firsts lent.counts
+  pub retired_put : is_retired q.filter ≡ true → Put (Err (Refused RetiredFilter)) s.numbers s.slots s.starts s.sizes s.excesses lent.doubles lent.firsts lent.counts
   unfolding put_of entered answer_of next after
   retired_put k = rw k (refl, (refl, (refl, (refl, (refl, (refl, (refl, (refl, refl))))))))
 
-  pub barred_put : is_retired q.filter ≡ false → closed s c || too_short (share s c) lent ≡ true → Put (Refused DoesNotFit) s.numbers s.slots s.starts s.sizes s.excesses lent.doubles lent.firsts lent.counts
+  pub barred_put : is_retired q.filter ≡ false → closed s c || too_short (share s c) lent ≡ true → Put (Err (Refused DoesNotFit)) s.numbers s.slots s.starts s.sizes s.excesses lent.doubles lent.firsts lent.counts
   unfolding put_of entered view_of answer_of next after
   barred_put k h = rw (k, h) (refl, (refl, (refl, (refl, (refl, (refl, (refl, (refl, refl))))))))
 
@@ -56,7 +57,7 @@ module _ (s : Store) (c : ℕ) (q : Request) (lent : Scratch) where
     abbrev built : Scratch
     built = built_in q (share s c) lent
 
-    pub placed_put : (answer : Built) (numbers : List ℕ) (slots : List ℤ) (starts sizes : List ℕ) (excesses : List ℤ) (doubles : List Float) (firsts counts : List ℕ)
+    pub placed_put : (answer : Result ℕ NotBuilt) (numbers : List ℕ) (slots : List ℤ) (starts sizes : List ℕ) (excesses : List ℤ) (doubles : List Float) (firsts counts : List ℕ)
         → (answer ≡ answer_of there)
         × ((numbers ≡ (after s c there).numbers)
         × ((slots ≡ (after s c there).slots)

@@ -1,4 +1,5 @@
 -- What is known of a place that was found, and of a client that holds nothing. Cited by the proof of `pass`. Assumes nothing.
+use Rattle.std.specs.Prelude.{Option, Some, None}
 use mathlib.Core.Path.{◌≡◌, refl, ap, ◌∙◌, subst}
 use mathlib.Core.Bool.{Bool, true, false, cond, ◌||◌}
 use mathlib.Core.List.{List}
@@ -9,8 +10,6 @@ use lib.ListN.{length}
 use Rattle.lists.proofs.BoolLaws.{or_left, or_right}
 use Rattle.windows.specs.Set.{layout_of, set_of, stored_of}
 use Rattle.share_lists.specs.declared.Place.{Place}
-use Rattle.share_lists.specs.declared.Found.{Found}
-use Rattle.share_lists.specs.declared.Found.TheVariants.{Nothing, At}
 use Rattle.share_lists.specs.Inner.{place_of, found_in}
 use Rattle.shares.specs.Store.{Store, part, held, wide, slot_base, line_base, closed, unset, set_at, nothing, holding, held_in}
 use Rattle.shares.proofs.Opened.{open_store, inside_part, in_slots}
@@ -49,21 +48,21 @@ at_place s c h =
           ∙ ap holding (set_by _ _ _ (slot_base s c) (line_base c) (held s c) (held s c * wide s c) _ _ s.slots s.starts s.sizes s.excesses (len (slot_base s c) (held s c * wide s c)) (len (line_base c) (held s c)));
     }
 
-abbrev pub found_for : Store → ℕ → Found
+abbrev pub found_for : Store → ℕ → Option Place
 found_for s c = found_in s.numbers (length s.slots) (length s.starts) (length s.sizes) (length s.excesses) c
 
-pub found_at : (s : Store) (c : ℕ) (p : Place) → found_for s c ≡ At p → FoundAt s c p
+pub found_at : (s : Store) (c : ℕ) (p : Place) → found_for s c ≡ Some p → FoundAt s c p
 unfolding found_in closed unset
 found_at s c p h = go (closed s c || unset s c) refl h
   where
-    go : (t : Bool) → closed s c || unset s c ≡ t → cond t Nothing (At (place_of s.numbers c)) ≡ At p → FoundAt s c p
+    go : (t : Bool) → closed s c || unset s c ≡ t → cond t None (Some (place_of s.numbers c)) ≡ Some p → FoundAt s c p
     go true e g = let z : ◌≡◌ {A = ℕ} 0 1 = cc in absurd (omega arith)
     go false e g = let same : place_of s.numbers c ≡ p = cc in subst (FoundAt s c) same (at_place s c e)
 
-pub found_none : (s : Store) (c : ℕ) → found_for s c ≡ Nothing → held_in s c ≡ nothing
+pub found_none : (s : Store) (c : ℕ) → found_for s c ≡ None → held_in s c ≡ nothing
 unfolding found_in held_in closed unset
 found_none s c h = go (closed s c || unset s c) h
   where
-    go : (t : Bool) → cond t Nothing (At (place_of s.numbers c)) ≡ Nothing → cond t nothing (holding (set_at s c)) ≡ nothing
+    go : (t : Bool) → cond t None (Some (place_of s.numbers c)) ≡ None → cond t nothing (holding (set_at s c)) ≡ nothing
     go true g = refl
     go false g = let z : ◌≡◌ {A = ℕ} 0 1 = cc in absurd (omega arith)

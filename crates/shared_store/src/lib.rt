@@ -8,13 +8,12 @@ ghost use Rattle.shares.specs.Store.{store_of, view_of};
 ghost use Rattle.shares.specs.Scratch.{scratch_of};
 ghost use Rattle.shares.specs.Machine.{next, by, puts, put_answer, scratch_after, pass_answer, pass_output};
 
-use coefficients::Built;
+use coefficients::NotBuilt;
 use plans::Request;
 use refusal::Refusal;
-use share_lists::{Found, barred, find};
+use share_lists::{barred, find};
 use share_passes::pass_at;
 use share_places::place;
-use vertical::Passed;
 
 // A client's set, built for the 32-bit store, in the place of its former one, for any lists; refused (No. 16 first, of a retired filter; No. 10, then the builder's 1 to 8 with 7 against the share, then 9),
 // the former set stays. The builder works in three lists that are lent with the call: as many doubles as the share has slots, 8,192 starts and 8,192 sizes.
@@ -29,7 +28,7 @@ pub fn put(
     doubles: &mut [f64],
     firsts: &mut [u32],
     counts: &mut [u32],
-) -> Built
+) -> Result<u32, NotBuilt>
     ensures answer { result ≡ put_answer (view_of (store_of numbers.old slots.old starts.old sizes.old excesses.old) client) request (scratch_of doubles.old firsts.old counts.old) }
     ensures written { numbers.new ≡ (next (store_of numbers.old slots.old starts.old sizes.old excesses.old) (by client (puts request (scratch_of doubles.old firsts.old counts.old)))).numbers }
     ensures written2 { slots.new ≡ (next (store_of numbers.old slots.old starts.old sizes.old excesses.old) (by client (puts request (scratch_of doubles.old firsts.old counts.old)))).slots }
@@ -42,7 +41,7 @@ pub fn put(
 {
     let kind = request.filter;
     if filters::retired(kind) {
-        return Built::Refused(Refusal::RetiredFilter);
+        return Err(NotBuilt::Refused(Refusal::RetiredFilter));
     }
     if barred(
         numbers,
@@ -55,7 +54,7 @@ pub fn put(
         firsts.len(),
         counts.len(),
     ) {
-        return Built::Refused(Refusal::DoesNotFit);
+        return Err(NotBuilt::Refused(Refusal::DoesNotFit));
     }
     place(
         numbers, slots, starts, sizes, excesses, client, request, doubles, firsts, counts,
@@ -75,7 +74,7 @@ pub fn pass(
     first: u32,
     count: u32,
     out: &mut [u16],
-) -> Passed
+) -> Result<(), Refusal>
     ensures answer { result ≡ pass_answer (view_of (store_of numbers.now slots.now starts.now sizes.now excesses.now) client) src.now row first count (length out.old) }
     ensures written { out.new ≡ pass_output (view_of (store_of numbers.now slots.now starts.now sizes.now excesses.now) client) src.now row first count out.old }
 {
@@ -87,8 +86,8 @@ pub fn pass(
         excesses.len(),
         client,
     );
-    let Found::At(p) = found else {
-        return Passed::Refused(Refusal::DoesNotFit);
+    let Some(p) = found else {
+        return Err(Refusal::DoesNotFit);
     };
     pass_at(
         slots, starts, sizes, excesses, p, src, row, first, count, out,

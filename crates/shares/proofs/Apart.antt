@@ -1,5 +1,6 @@
 -- Neither client sees the other, over runs of any length. Each call moves the caller's view as `view_after` says, a function of that view, and no other's; so by induction over
 -- the run what a client gets is a function of its view and its own calls (`alone`), and a restart leaves views that depend on the shares alone. Assumes nothing.
+use Rattle.std.specs.Prelude.{Ok, Err}
 use mathlib.Core.Path.{◌≡◌, refl, sym, ap, ◌∙◌, subst}
 use mathlib.Core.Bool.{Bool, true, false, cond, ◌||◌}
 use mathlib.Core.List.{List, [], ◌∷◌}
@@ -13,7 +14,6 @@ use Rattle.filters.specs.Names.{is_retired}
 use Rattle.plans.specs.declared.Request.{Request}
 use Rattle.made_sets.specs.Made.{Made, new, none, refused_by, made_of}
 use Rattle.made_sets.proofs.Made.{FitsMade, made_fits}
-use Rattle.shares.specs.declared.Restarted.TheVariants.{Done, Refused}
 use Rattle.shares.specs.Restarted.{number_of}
 use Rattle.shares.specs.Store.{Store, store_of, share, closed, unset, bad_lists_value, nothing, holding, held_in, View, view_with, view_of}
 use Rattle.shares.specs.Scratch.{Scratch, too_short}
@@ -146,7 +146,7 @@ pub same_from_the_same : SameFromTheSame
 same_from_the_same c s t xs ys look calls = same c s t xs ys look calls
 
 -- ---- from a restart on
-done_tests : (bad few : Bool) → number_of (cond bad (Refused DoesNotFit) (cond few (Refused SharesDoNotFit) Done)) ≡ 0 → (bad ≡ false) × (few ≡ false)
+done_tests : (bad few : Bool) → number_of (cond bad (Err DoesNotFit) (cond few (Err SharesDoNotFit) (Ok tt))) ≡ 0 → (bad ≡ false) × (few ≡ false)
 done_tests true few h = absurd (omega (arith, h))
 done_tests false true h = absurd (omega (arith, h))
 done_tests false false h = (refl, refl)

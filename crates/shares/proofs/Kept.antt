@@ -1,4 +1,5 @@
 -- A call of one client leaves the other's part of every list as it was; and a refused call leaves the store as it was, No. 8 included. Assumes nothing.
+use Rattle.std.specs.Prelude.{Result, Ok, Err, ⊤}
 use mathlib.Core.Path.{◌≡◌, refl, ap}
 use mathlib.Core.List.{List, [], ◌∷◌}
 use Prim.Native.Nat.{ℕ, ◌+◌, ◌*◌, ◌≤◌}
@@ -10,12 +11,9 @@ use Rattle.windows.specs.Set.{Stored}
 use Rattle.coefficients.specs.Answer.{number_of as numberOfBuilt}
 use Rattle.made_sets.specs.Made.{Made, new, none, answer_of}
 use Rattle.made_sets.proofs.Made.{Fits}
-use Rattle.vertical.specs.declared.Passed.{Passed}
-use Rattle.vertical.specs.declared.Passed.TheVariants.{Done as Passing, Refused as PassRefused}
+use Rattle.refusal.specs.declared.Refusal.{Refusal}
 use Rattle.vertical.specs.Passed.{number_of as numberOfPassed, after as afterPass}
 use Rattle.vertical.specs.U16.{passed_u16, written_u16}
-use Rattle.shares.specs.declared.Restarted.{Restarted}
-use Rattle.shares.specs.declared.Restarted.TheVariants.{Done, Refused}
 use Rattle.shares.specs.Restarted.{number_of}
 use Rattle.shares.specs.Store.{Store, store_of, part, share, Held, nothing, holding, view_of}
 use Rattle.shares.specs.Machine.{restarted_of, numbers_by, put_of, with_set, after, passed_with, written_with, puts, passes, next}
@@ -55,19 +53,19 @@ other_parts_kept s d (puts q lent) c one apart = made_kept s d (put_of (view_of 
 other_parts_kept s d (passes src row first count out) c one apart = all_kept c s
 
 -- ---- refused
-restart_kept : (r : Restarted) (a b : ℕ) (old : List ℕ) → (number_of r ≡ 0 → ⊥) → numbers_by r a b old ≡ old
+restart_kept : (r : Result ⊤ Refusal) (a b : ℕ) (old : List ℕ) → (number_of r ≡ 0 → ⊥) → numbers_by r a b old ≡ old
 unfolding numbers_by
-restart_kept Done a b old h = absurd (h refl)
-restart_kept (Refused refusal) a b old h = refl
+restart_kept (Ok tt) a b old h = absurd (h refl)
+restart_kept (Err refusal) a b old h = refl
 
 put_kept : (s : Store) (c : ℕ) (m : Made) → (numberOfBuilt (answer_of m) ≡ 0 → ⊥) → after s c m ≡ s
 unfolding after answer_of
 put_kept s c (new stored) h = absurd (h refl)
 put_kept s c (none answer) h = refl
 
-passed_kept : (a : Passed) (written old : List ℕ) → (numberOfPassed a ≡ 0 → ⊥) → afterPass a written old ≡ old
-passed_kept Passing written old h = absurd (h refl)
-passed_kept (PassRefused refusal) written old h = refl
+passed_kept : (a : Result ⊤ Refusal) (written old : List ℕ) → (numberOfPassed a ≡ 0 → ⊥) → afterPass a written old ≡ old
+passed_kept (Ok tt) written old h = absurd (h refl)
+passed_kept (Err refusal) written old h = refl
 
 pass_kept : (v : Held) (src : List ℕ) (row first count : ℕ) (out : List ℕ) → (numberOfPassed (passed_with v (length src) row first count (length out)) ≡ 0 → ⊥) → written_with v src row first count out ≡ out
 unfolding passed_with written_with written_u16

@@ -6,4 +6,3 @@ pub mod Apart
 pub mod Kept
 pub mod Tests
 pub mod Rows
-pub mod Sure

@@ -1,8 +1,9 @@
 -- For the customer: each number of a restart, of a set put in and of a pass is given exactly when its test holds and none that is judged before it does, and No. 0 exactly when none
 -- holds; so for every call one row applies and no other. Cited by docs/CONTRACTS.md. Assumes nothing.
+use Rattle.std.specs.Prelude.{Ok, Err, Option, Some, None}
 use mathlib.Core.Path.{◌≡◌, refl, sym, ap, ◌∙◌}
 use mathlib.Core.Bool.{Bool, true, false, cond, ◌||◌}
-use mathlib.Core.List.{List, [], ◌∷◌}
+use mathlib.Core.List.{[]}
 use Prim.Native.Nat.{ℕ, ◌+◌}
 use lib.Dec.{ltb}
 use lib.ListN.{length}
@@ -11,32 +12,25 @@ use Rattle.lists.specs.Ranges.{bad_sides_value}
 use Rattle.lists.proofs.LadderLaws.{exactly_due}
 use Rattle.refusal.specs.declared.Refusal.TheVariants.{BadSide, DoesNotFit, SharesDoNotFit}
 use Rattle.filters.specs.declared.Filter.{Filter}
-use Rattle.filters.specs.declared.Picked.{Picked}
-use Rattle.filters.specs.declared.Picked.TheVariants.{Is, Retired}
 use Rattle.filters.specs.Names.{picked_of, is_retired}
 use Rattle.filters.proofs.NameLaws.{none_retired, picked_stays}
 use Rattle.crop_box.specs.Crop.{not_finite_value, negative_extent_value, start_outside_value, end_outside_value, crop_of}
 use Rattle.windows.specs.Set.{windows}
 use Rattle.windows.specs.Store.{store32}
 use Rattle.windows.specs.Fit.{bad_stored}
-use Rattle.plans.specs.declared.Edge.{Edge}
 use Rattle.plans.specs.declared.Plan.{Plan}
-use Rattle.plans.specs.declared.Planned.TheVariants.{Ready}
 use Rattle.plans.specs.declared.Request.{Request}
-use Rattle.plans.specs.Plan.{edge_of, plan_for, bad_output, no_scale, scaled, after_crop, plan_with_value, plan_of}
-use Rattle.plan_windows.specs.Lines.{first_blank, or_zero}
-use Rattle.coefficients.specs.declared.Built.TheVariants.{Done as BuiltDone}
+use Rattle.plans.specs.Plan.{bad_output, no_scale, scaled, after_crop, plan_with_value, plan_of}
+use Rattle.plan_windows.specs.Lines.{or_zero}
 use Rattle.coefficients.specs.Answer.{number_of as numberOfBuilt}
-use Rattle.coefficients.specs.Request.{too_few_slots, judged, built_of}
+use Rattle.coefficients.specs.Request.{judged, built_of}
 use Rattle.normalizer.specs.Answer.{bad_weights}
 use Rattle.made_sets.specs.Made.{planned_set, made_of, answer_of}
 use Rattle.made_sets.proofs.Planned.{planned, plan}
 use Rattle.made_sets.proofs.Fitting.{made_number}
-use Rattle.vertical.specs.declared.Passed.TheVariants.{Done as Passing, Refused as PassRefused}
 use Rattle.vertical.specs.Passed.{number_of as numberOfPassed}
 use Rattle.vertical.specs.Frame.{bad_size, bad_area}
 use Rattle.vertical.specs.U16.{passed_u16}
-use Rattle.shares.specs.declared.Restarted.TheVariants.{Done, Refused}
 use Rattle.shares.specs.Restarted.{number_of}
 use Rattle.shares.specs.Store.{Store, bad_lists_value, Held, nothing, holding, View}
 use Rattle.shares.specs.Scratch.{Scratch, too_short}
@@ -44,7 +38,7 @@ use Rattle.shares.specs.Machine.{restarted_of, entered, put_of, put_answer, pass
 use Rattle.shares.proofs.Tests.{rows_restart, edge, asked, few_slots, some_blank, outside, rows_put, rows_pass}
 
 -- ---- a restart
-numbered : (a b : Bool) → number_of (cond a (Refused DoesNotFit) (cond b (Refused SharesDoNotFit) Done)) ≡ cond a 10 (cond b 15 0)
+numbered : (a b : Bool) → number_of (cond a (Err DoesNotFit) (cond b (Err SharesDoNotFit) (Ok tt))) ≡ cond a 10 (cond b 15 0)
 numbered true b = refl
 numbered false true = refl
 numbered false false = refl
@@ -59,14 +53,14 @@ module _ (s : Store) (first second : ℕ) where
 
 -- ---- a set put in
 module _ (v : View) (q : Request) (lent : Scratch) where
-  module _ (k : Filter) (is : picked_of q.filter ≡ Is k) where
+  module _ (k : Filter) (is : picked_of q.filter ≡ Some k) where
     stays : is_retired q.filter ≡ false
     stays = picked_stays q.filter k is
 
     -- a set that is built
-    nine : plan_of q ≡ Ready (asked v q k) → built_of q v.room 8192 8192 ≡ BuiltDone (asked v q k).window → numberOfBuilt (answer_of (made_of q v.room)) ≡ cond (outside v q (asked v q k)) 9 0
+    nine : plan_of q ≡ Ok (asked v q k) → built_of q v.room 8192 8192 ≡ Ok (asked v q k).window → numberOfBuilt (answer_of (made_of q v.room)) ≡ cond (outside v q (asked v q k)) 9 0
     nine ready done =
-        let known : Ready (plan q v.room (asked v q k).window done) ≡ Ready (asked v q k) = sym (planned q v.room (asked v q k).window done).ready ∙ ready in
+        let known : Ok (plan q v.room (asked v q k).window done) ≡ Ok (asked v q k) = sym (planned q v.room (asked v q k).window done).ready ∙ ready in
         let same : plan q v.room (asked v q k).window done ≡ asked v q k = cc in
         made_number q v.room (asked v q k).window done ∙ ap (λ (p : Plan). cond (bad_weights store32 (planned_set p) v.room 8192) 9 0) same
 
@@ -83,28 +77,28 @@ module _ (v : View) (q : Request) (lent : Scratch) where
     by false false false false false false false false true i T A B C D E F G H I = rw (stays, is, T, A, B, C, D, E, F, G, H)
     by false false false false false false false false false true T A B C D E F G H I = rw (stays, is, T, A, B, C, D, E, F, G, H, I)
     by false false false false false false false false false false T A B C D E F G H I =
-        let ready : plan_of q ≡ Ready (asked v q k) = rw (is, A, B, C, D, E, F, G) in
-        let done : built_of q v.room 8192 8192 ≡ BuiltDone (asked v q k).window = rw (is, A, B, C, D, E, F, G, H, I) in
+        let ready : plan_of q ≡ Ok (asked v q k) = rw (is, A, B, C, D, E, F, G) in
+        let done : built_of q v.room 8192 8192 ≡ Ok (asked v q k).window = rw (is, A, B, C, D, E, F, G, H, I) in
         let last = nine ready done in
         rw (stays, is, T, A, B, C, D, E, F, G, H, I) (rw (is, A, B, C, D, E, F, G, H, I) at last)
 
   -- and where the name is retired
-  first : picked_of q.filter ≡ Retired → numberOfBuilt (put_answer v q lent) ≡ given (rows_put v q lent)
+  first : picked_of q.filter ≡ None → numberOfBuilt (put_answer v q lent) ≡ given (rows_put v q lent)
   unfolding put_of entered answer_of
   first is = rw (none_retired q.filter is)
 
   put_is : numberOfBuilt (put_answer v q lent) ≡ given (rows_put v q lent)
   put_is = go (picked_of q.filter) refl
     where
-      go : (x : Picked) → picked_of q.filter ≡ x → numberOfBuilt (put_answer v q lent) ≡ given (rows_put v q lent)
-      go Retired e = first e
-      go (Is k) e = by k e _ _ _ _ _ _ _ _ _ _ refl refl refl refl refl refl refl refl refl refl
+      go : (x : Option Filter) → picked_of q.filter ≡ x → numberOfBuilt (put_answer v q lent) ≡ given (rows_put v q lent)
+      go None e = first e
+      go (Some k) e = by k e _ _ _ _ _ _ _ _ _ _ refl refl refl refl refl refl refl refl refl refl
 
   pub put_exactly : (n : ℕ) → Exactly (numberOfBuilt (put_answer v q lent) ≡ n) (Due n (rows_put v q lent))
   put_exactly n = rw put_is (exactly_due n (rows_put v q lent) refl)
 
 -- ---- a pass
-passed_is : (a b c : Bool) → numberOfPassed (cond a (PassRefused BadSide) (cond b (PassRefused DoesNotFit) (cond c (PassRefused DoesNotFit) Passing))) ≡ cond a 1 (cond (b || c) 10 0)
+passed_is : (a b c : Bool) → numberOfPassed (cond a (Err BadSide) (cond b (Err DoesNotFit) (cond c (Err DoesNotFit) (Ok tt)))) ≡ cond a 1 (cond (b || c) 10 0)
 passed_is true b c = refl
 passed_is false true c = refl
 passed_is false false true = refl

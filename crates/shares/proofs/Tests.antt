@@ -1,5 +1,6 @@
 -- The tests of a restart, of a set put in and of a pass in the order of judging, each with its number. Rows.antt proves that the answers are what they say. Cited by
 -- Rows.antt. Assumes nothing.
+use Rattle.std.specs.Prelude.{Option, Some, None}
 use mathlib.Core.Bool.{Bool, true, false, ◌||◌}
 use mathlib.Core.List.{List, [], ◌∷◌}
 use Prim.Native.Nat.{ℕ, ◌+◌}
@@ -7,8 +8,6 @@ use lib.Dec.{ltb}
 use lib.ListN.{length}
 use Rattle.lists.specs.Ranges.{bad_sides_value}
 use Rattle.filters.specs.declared.Filter.{Filter}
-use Rattle.filters.specs.declared.Picked.{Picked}
-use Rattle.filters.specs.declared.Picked.TheVariants.{Is, Retired}
 use Rattle.filters.specs.Names.{picked_of, is_retired}
 use Rattle.crop_box.specs.Crop.{not_finite_value, negative_extent_value, start_outside_value, end_outside_value}
 use Rattle.windows.specs.Set.{windows}
@@ -41,9 +40,9 @@ module _ (v : View) (q : Request) where
   asked f = plan_for f q.adapts edge q.output
 
   -- a test of that plan
-  abbrev pub of_plan : (Plan → Bool) → Picked → Bool
-  of_plan test Retired = false
-  of_plan test (Is f) = test (asked f)
+  abbrev pub of_plan : (Plan → Bool) → Option Filter → Bool
+  of_plan test None = false
+  of_plan test (Some f) = test (asked f)
 
   abbrev pub few_slots : Plan → Bool
   few_slots p = too_few_slots p v.room 8192 8192

@@ -1,37 +1,33 @@
 -- The shared store as a machine: a store, a call, the store and the answer after it. What a client is answered is said of its view (`View`), so that it rests on
 -- nothing else by form. Cited by the contracts of `restart`, `put` and `pass`, which are the steps. Definitions only. Assumes nothing.
-use Rattle.std.specs.Prelude.{cond, ◌||◌, List, [], ◌∷◌, ℕ, ◌+◌, ◌*◌, ltb, length}
+use Rattle.std.specs.Prelude.{cond, ◌||◌, List, [], ◌∷◌, ℕ, ◌+◌, ◌*◌, ltb, length, Result, Ok, Err, ⊤}
 use Rattle.text.specs.Text.{laid}
 use Rattle.refusal.specs.declared.Refusal.{Refusal}
 use Rattle.refusal.specs.declared.Refusal.TheVariants.{DoesNotFit, SharesDoNotFit, RetiredFilter}
 use Rattle.filters.specs.Names.{is_retired}
 use Rattle.windows.specs.Set.{Stored, windows}
 use Rattle.plans.specs.declared.Request.{Request}
-use Rattle.coefficients.specs.declared.Built.{Built}
+use Rattle.coefficients.specs.declared.NotBuilt.{NotBuilt}
 use Rattle.made_sets.specs.Made.{Made, new, none, refused_by, made_of, answer_of}
-use Rattle.vertical.specs.declared.Passed.{Passed}
-use Rattle.vertical.specs.declared.Passed.TheVariants.{Refused as PassRefused}
 use Rattle.vertical.specs.U16.{passed_u16, written_u16}
-use Rattle.shares.specs.declared.Restarted.{Restarted}
-use Rattle.shares.specs.declared.Restarted.TheVariants.{Done, Refused}
 use Rattle.shares.specs.Store.{Store, store_of, slot_base, line_base, bad_lists_value, Held, nothing, holding, View, view_of}
 use Rattle.shares.specs.Scratch.{Scratch, too_short, built_in}
 
 -- ---- a restart
 -- No. 10 of the lists, then No. 15: shares that are together larger than the store
-unfoldable pub restarted_of : Store → ℕ → ℕ → Restarted
+unfoldable pub restarted_of : Store → ℕ → ℕ → Result ⊤ Refusal
 restarted_of s first second =
-    cond (bad_lists_value s) (Refused DoesNotFit)
-    (cond (ltb (length s.slots) (first + second)) (Refused SharesDoNotFit)
-    Done)
+    cond (bad_lists_value s) (Err DoesNotFit)
+    (cond (ltb (length s.slots) (first + second)) (Err SharesDoNotFit)
+    (Ok tt))
 
 -- both shares anew, and no set
 abbrev pub emptied : ℕ → ℕ → List ℕ
 emptied first second = first ∷ 0 ∷ 0 ∷ 0 ∷ 0 ∷ second ∷ 0 ∷ 0 ∷ 0 ∷ 0 ∷ []
 
-unfoldable pub numbers_by : Restarted → ℕ → ℕ → List ℕ → List ℕ
-numbers_by Done first second old = emptied first second
-numbers_by (Refused refusal) first second old = old
+unfoldable pub numbers_by : Result ⊤ Refusal → ℕ → ℕ → List ℕ → List ℕ
+numbers_by (Ok tt) first second old = emptied first second
+numbers_by (Err refusal) first second old = old
 
 -- ---- a set put in
 -- what is judged of a call before anything is built: the choice that the answer and the lent lists make
@@ -60,8 +56,8 @@ after s c (new stored) = with_set s c stored
 after s c (none answer) = s
 
 -- ---- a pass: the u16 pass with the set that is held, or No. 10
-unfoldable pub passed_with : Held → ℕ → ℕ → ℕ → ℕ → ℕ → Passed
-passed_with nothing samples row first count room = PassRefused DoesNotFit
+unfoldable pub passed_with : Held → ℕ → ℕ → ℕ → ℕ → ℕ → Result ⊤ Refusal
+passed_with nothing samples row first count room = Err DoesNotFit
 passed_with (holding stored) samples row first count room = passed_u16 stored samples row first count room
 
 unfoldable pub written_with : Held → List ℕ → ℕ → ℕ → ℕ → List ℕ → List ℕ
@@ -70,13 +66,13 @@ written_with (holding stored) src row first count old = written_u16 stored src r
 
 -- ---- what a client gets back
 module _ (v : View) where
-  abbrev pub put_answer : Request → Scratch → Built
+  abbrev pub put_answer : Request → Scratch → Result ℕ NotBuilt
   put_answer q lent = answer_of (put_of v q lent)
 
   abbrev pub scratch_after : Request → Scratch → Scratch
   scratch_after q lent = entered v q lent (λ refusal. lent) (built_in q v.room lent)
 
-  abbrev pub pass_answer : List ℕ → ℕ → ℕ → ℕ → ℕ → Passed
+  abbrev pub pass_answer : List ℕ → ℕ → ℕ → ℕ → ℕ → Result ⊤ Refusal
   pass_answer src row first count room = passed_with v.has (length src) row first count room
 
   abbrev pub pass_output : List ℕ → ℕ → ℕ → ℕ → List ℕ → List ℕ
@@ -90,9 +86,9 @@ pub data Call : Type 0 where
 
 -- what comes back, with the lent lists as they are then
 pub data Answer : Type 0 where
-  restarted : Restarted → Answer
-  was_put : Built → Scratch → Answer
-  passed : Passed → List ℕ → Answer
+  restarted : Result ⊤ Refusal → Answer
+  was_put : Result ℕ NotBuilt → Scratch → Answer
+  passed : Result ⊤ Refusal → List ℕ → Answer
 
 -- to a client, by what it sees
 unfoldable pub reply_to : View → Call → Answer

@@ -1,9 +1,7 @@
 -- The number for each answer of a restart. Cited by `number` and by the statements. Definitions only. Assumes nothing.
-use Rattle.std.specs.Prelude.{ℕ}
-use Rattle.refusal.specs.Refusal.{number_of as numberOfRefusal}
-use Rattle.shares.specs.declared.Restarted.{Restarted}
-use Rattle.shares.specs.declared.Restarted.TheVariants.{Done, Refused}
+use Rattle.std.specs.Prelude.{ℕ, Result, ⊤}
+use Rattle.refusal.specs.Refusal.{number_in}
+use Rattle.refusal.specs.declared.Refusal.{Refusal}
 
-abbrev pub number_of : Restarted → ℕ
-number_of Done = 0
-number_of (Refused refusal) = numberOfRefusal refusal
+abbrev pub number_of : Result ⊤ Refusal → ℕ
+number_of = number_in

@@ -2,14 +2,4 @@
 // steps. Each client has a share of the slots and may put in one set; what it gets back depends on its own calls and its share alone (`apart`). The answer of a restart stands here; no other code.
 #![tactic(auto)]
 
-mod answer;
-
 use refusal::Refusal;
-
-#[derive(Drop)]
-pub enum Restarted {
-    // 0: both clients emptied, the shares set anew
-    Done,
-    // why not; the store is unchanged
-    Refused(Refusal),
-}

@@ -1,6 +1,5 @@
 pub mod SheetLaws
 pub mod WriterLaws
-pub mod Sure
 pub mod Example
 pub mod Tests
 pub mod Rows

@@ -1,5 +1,6 @@
 -- For the customer: each of No. 1, 10 and 11 is given by a writer exactly when its test holds and none before it does, and No. 0 exactly when none holds; so for every
 -- input one row applies and no other. Over both stores. Cited by docs/CONTRACTS.md. Assumes nothing.
+use Rattle.std.specs.Prelude.{Ok, Err}
 use mathlib.Core.Path.{◌≡◌, refl}
 use mathlib.Core.Bool.{Bool, true, false, cond}
 use Prim.Native.Nat.{ℕ}
@@ -12,12 +13,11 @@ use Rattle.filters.specs.declared.FilterType.{FilterType}
 use Rattle.windows.specs.declared.Store.{Store}
 use Rattle.windows.specs.Set.{Stored, windows}
 use Rattle.windows.specs.Fit.{bad_stored}
-use Rattle.sheet.specs.declared.Sheet.TheVariants.{Written, Refused}
 use Rattle.sheet.specs.Answer.{no_room, by_case, answer_of, number_of}
 use Rattle.sheet.specs.Text.{sheet_text_value}
 use Rattle.sheet.proofs.Tests.{rows}
 
-numbered : (a b c : Bool) (n : ℕ) → number_of (cond a (Refused BadSide) (cond b (Refused DoesNotFit) (cond c (Refused NoRoom) (Written n)))) ≡ cond a 1 (cond b 10 (cond c 11 0))
+numbered : (a b c : Bool) (n : ℕ) → number_of (cond a (Err BadSide) (cond b (Err DoesNotFit) (cond c (Err NoRoom) (Ok n)))) ≡ cond a 1 (cond b 10 (cond c 11 0))
 numbered true b c n = refl
 numbered false true c n = refl
 numbered false false true n = refl

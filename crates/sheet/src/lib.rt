@@ -2,14 +2,6 @@
 // parts over a lent list, `write_sheets` judges a set and the room and writes the whole; the scanners read it back.
 #![tactic(auto)]
 
-mod answer;
 pub mod keys;
 
 use refusal::Refusal;
-
-// The answer: how many bytes were written, or why none was.
-#[derive(Clone, Copy)]
-pub enum Sheet {
-    Written(u64),
-    Refused(Refusal),
-}

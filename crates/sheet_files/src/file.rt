@@ -1,103 +1,52 @@
 // The bytes of the file that an argument names.
-ghost use Rattle.std.specs.Prelude.{◌-◌, ◌≤◌, length};
+ghost use Rattle.std.specs.Prelude.{◌≤◌, length, IfOk};
 
-use program_streams::Part;
 use std::fs::File;
+use std::io;
+use std::io::Read;
 
-// The file's end was seen; or it could not be opened or read; or it goes on where the room ends.
-#[derive(Drop)]
-pub(crate) enum Ends {
-    Whole,
-    Failed,
+// Why a file gives no text: it could not be opened or read, or it goes on where the room ends.
+#[derive(Clone, Copy)]
+pub(crate) enum NoText {
+    Unreadable,
     Long,
 }
 
-// How many bytes were read, and how that ended.
-#[derive(Drop)]
-pub(crate) struct Input {
-    pub(crate) n: usize,
-    pub(crate) ends: Ends,
-}
-
-// Nothing was read.
-fn failed() -> Input
-    ensures { result.n ≤ 0 }
-{
-    Input {
-        n: 0,
-        ends: Ends::Failed,
+impl From<io::Error> for NoText {
+    fn from(_error: io::Error) -> NoText {
+        NoText::Unreadable
     }
 }
 
-// One read behind the place a.
-fn read_at(file: &mut File, buf: &mut [u8], a: usize) -> Part
-    ensures { result.n ≤ length buf.old - a }
-{
-    let e = buf.len();
-    if e < a {
-        return Part { n: 0, failed: true };
-    }
-    program_streams::read_once(file, &mut buf[a..e])
-}
-
-// Reads to the file's end, or until the list is full.
-fn fill(file: &mut File, buf: &mut [u8]) -> Part
-    ensures { result.n ≤ length buf.old }
+// Reads to the file's end, or until the list is full; how many bytes there were.
+fn fill(file: &mut File, buf: &mut [u8]) -> io::Result<usize>
+    ensures { IfOk result (λ n. n ≤ length buf.old) }
 {
     let mut n: usize = 0;
+    // A `while`: each turn goes on by as many bytes as its read brought, and a `for` knows no such step.
     while n < buf.len() {
-        let part = read_at(file, buf, n);
-        if part.failed {
-            return Part { n: 0, failed: true };
+        match file.read(&mut buf[n..])? {
+            0 => return Ok(n),
+            more => n += more,
         }
-        if part.n == 0 {
-            return Part {
-                n: n,
-                failed: false,
-            };
-        }
-        n += part.n;
     }
-    Part {
-        n: n,
-        failed: false,
-    }
+    Ok(n)
 }
 
 // Whether the file goes on.
 fn goes_on(file: &mut File) -> bool {
     let mut more = [0u8; 1];
-    let part = program_streams::read_once(file, &mut more);
-    0 < part.n
-}
-
-// The bytes of an open file.
-fn whole(file: &mut File, buf: &mut [u8]) -> Input
-    ensures { result.n ≤ length buf.old }
-{
-    let part = fill(file, buf);
-    if part.failed {
-        return failed();
-    }
-    if goes_on(file) {
-        return Input {
-            n: 0,
-            ends: Ends::Long,
-        };
-    }
-    Input {
-        n: part.n,
-        ends: Ends::Whole,
-    }
+    file.read(&mut more).is_ok_and(|n| 0 < n)
 }
 
 // The bytes of the file that argument i names, in the beginning of the list. It is closed again, so that a program may read any number of files.
-pub(crate) fn read(rt: HostRuntime, i: usize, buf: &mut [u8]) -> Input
-    ensures { result.n ≤ length buf.old }
+pub(crate) fn read<'a>(rt: HostRuntime, i: usize, buf: &'a mut [u8]) -> Result<&'a [u8], NoText>
+    ensures { IfOk result (λ text. length text.now ≤ length buf.old) }
 {
-    let opened = program_streams::opened(rt, i);
-    let Ok(mut file) = opened else {
-        return failed();
-    };
-    whole(&mut file, buf)
+    let mut file = program_streams::opened(rt, i)?;
+    let n = fill(&mut file, buf)?;
+    if goes_on(&mut file) {
+        return Err(NoText::Long);
+    }
+    Ok(&buf[..n])
 }

@@ -9,62 +9,33 @@ mod place;
 pub mod streams;
 mod unread;
 
-ghost use Rattle.std.specs.Prelude.{◌≤◌, length};
+ghost use Rattle.std.specs.Prelude.{◌≤◌, length, IfSome};
 
-use file::{Ends, Input};
 pub use marked::{refused, stopped};
 pub use program_streams::room;
 pub use unread::{missing, too_large};
 
-// How many bytes were read, and whether they are the whole of a file; where they are not, why has been said.
-#[derive(Drop)]
-pub struct Brought {
-    pub n: usize,
-    pub whole: bool,
-}
-
-// No text.
-fn none() -> Brought
-    ensures { result.n ≤ 0 }
+// The bytes of the file that argument i names, whatever others there are, in the beginning of the list; where there are none, why has been said.
+pub fn text_of<'a>(rt: HostRuntime, i: usize, buf: &'a mut [u8]) -> Option<&'a [u8]>
+    ensures { IfSome result (λ text. length text.now ≤ length buf.old) }
 {
-    Brought { n: 0, whole: false }
-}
-
-// What was read of the file that argument i names.
-fn told(rt: HostRuntime, i: usize, got: Input) -> Brought
-    ensures { result.n ≤ got.n }
-{
-    let ends = got.ends;
-    match ends {
-        Ends::Whole => return Brought {
-            n: got.n,
-            whole: true,
-        },
-        Ends::Failed => unread::failed(rt, i),
-        Ends::Long => unread::long(rt, i),
+    match file::read(rt, i, buf) {
+        Ok(text) => Some(text),
+        Err(why) => {
+            unread::told(rt, i, why);
+            None
+        }
     }
-    none()
-}
-
-// The bytes of the file that argument i names, whatever others there are, in the beginning of the list.
-pub fn text_of(rt: HostRuntime, i: usize, buf: &mut [u8]) -> Brought
-    ensures { result.n ≤ length buf.old }
-{
-    told(rt, i, file::read(rt, i, buf))
 }
 
 // The same where that is the only argument.
-pub fn text(rt: HostRuntime, buf: &mut [u8]) -> Brought
-    ensures { result.n ≤ length buf.old }
+pub fn text<'a>(rt: HostRuntime, buf: &'a mut [u8]) -> Option<&'a [u8]>
+    ensures { IfSome result (λ text. length text.now ≤ length buf.old) }
 {
-    let count = program_streams::argument_count(rt);
-    if count < 2 {
-        unread::missing(rt);
-        return none();
+    match program_streams::argument_count(rt) {
+        0 | 1 => unread::missing(rt),
+        2 => return text_of(rt, 1, buf),
+        _ => unread::too_many(rt),
     }
-    if 2 < count {
-        unread::too_many(rt);
-        return none();
-    }
-    text_of(rt, 1, buf)
+    None
 }

@@ -2,33 +2,11 @@
 ghost use Rattle.std.specs.Prelude.{◌≤◌, length};
 
 // The line's number, where it begins, and the place itself.
-#[derive(Drop)]
+#[derive(Clone, Copy)]
 pub(crate) struct Place {
-    pub(crate) line: u64,
+    pub(crate) line: usize,
     pub(crate) from: usize,
     pub(crate) at: usize,
-}
-
-// The line's number behind a byte.
-fn counted(b: u8, line: u64) -> u64 {
-    if b != b'\n' {
-        return line;
-    }
-    if u64::MAX <= line {
-        return line;
-    }
-    line + 1
-}
-
-// Where the line begins behind a byte; `next` is the place behind it.
-fn begun(b: u8, from: usize, next: usize) -> usize
-    requires { from ≤ next }
-    ensures { result ≤ next }
-{
-    if b == b'\n' {
-        return next;
-    }
-    from
 }
 
 // The place before byte `at`.
@@ -36,19 +14,16 @@ fn found(text: &[u8], at: usize) -> Place
     requires { at ≤ length text.now }
     ensures { (result.from ≤ result.at) × (result.at ≤ length text.now) }
 {
-    let mut line: u64 = 1;
-    let mut from: usize = 0;
-    let mut i: usize = 0;
-    while i < at {
-        let b = text[i];
-        i += 1;
-        line = counted(b, line);
-        from = begun(b, from, i);
-    }
+    let before = &text[..at];
+    let newlines = before.iter().filter(|&&b| b == b'\n').count();
+    let from = match before.iter().rposition(|&b| b == b'\n') {
+        Some(last) => last + 1,
+        None => 0,
+    };
     Place {
-        line: line,
-        from: from,
-        at: at,
+        line: newlines + 1,
+        from,
+        at,
     }
 }
 
@@ -68,12 +43,8 @@ pub(crate) fn line_end(text: &[u8], at: usize) -> usize
     requires { at ≤ length text.now }
     ensures { (at ≤ result) × (result ≤ length text.now) }
 {
-    let mut i = at;
-    while i < text.len() {
-        if text[i] == b'\n' {
-            return i;
-        }
-        i += 1;
+    match text[at..].iter().position(|&b| b == b'\n') {
+        Some(k) => at + k,
+        None => text.len(),
     }
-    i
 }

@@ -1,12 +1,10 @@
--- Reading a run that was scanned before into a lent list, one value a turn. Cited by `put_weights16` and `put_weights32`. Assumes nothing.
+-- Reading a run that was scanned before into a lent list, one value a turn. Cited by `put_weights`. Assumes nothing.
 use mathlib.Core.Path.{◌≡◌, refl, sym, ap, ◌∙◌}
 use mathlib.Core.List.{List}
-use Prim.Native.Nat.{ℕ, ◌+◌, ◌^◌, ◌≤◌, ◌<◌}
+use Prim.Native.Nat.{ℕ, ◌+◌, ◌≤◌, ◌<◌}
 use native.Mathlib.Omega.{arith}
-use lib.IntN.{ℤ, pos}
-use mir.Facts.{to_z-of_z}
-use mir.Syntax.{Width, w64}
-use mir.Val.{SFits, to_z, of_z, hbits}
+use lib.IntN.{ℤ, pos, negsuc}
+use lib.Signed.{mag}
 use lib.ListN.{length, set}
 use Rattle.lists.specs.Tab.{front}
 use Rattle.lists.proofs.TabLaws.{written_none, written_more}
@@ -14,7 +12,6 @@ use Rattle.scan.specs.Form.{Form, Found, Apart}
 use Rattle.scan.specs.Forms.{run}
 use Rattle.scan.specs.Number.{Inside}
 use Rattle.sheet_scan.specs.Whole.{slot_of}
-use Rattle.excess_scan.proofs.InsideLaws.{inside_fits}
 use Rattle.excess_scan.proofs.AlongLaws.{Along, along_none, along_value, along_more, along_all}
 
 module _ (F : ℕ → Form ℤ) (text : List ℕ) (n at : ℕ) (old : List ℤ) where
@@ -41,9 +38,7 @@ module _ (F : ℕ → Form ℤ) (text : List ℕ) (n at : ℕ) (old : List ℤ) 
       let all : j ≡ n = omega arith in
       (along_all F text n at g.along h l next f, g.each l next f ∙ ap (λ (k : ℕ). front k (slot_of l) old) all)
 
--- a weight inside its store's limits is kept by a cast to the lent list's type
-pub cast_fits : (w : Width) (limit : ℕ) (v : ℤ) → limit ≤ 2 ^ hbits w → limit ≤ 2 ^ 31 → Inside limit v → SFits w (to_z w64 (of_z w64 v))
-cast_fits w limit v l m good = rw (to_z-of_z (inside_fits w64 limit v (omega arith) good)) (inside_fits w limit v l good)
-
-pub cast_kept : (w : Width) (limit : ℕ) (v : ℤ) → limit ≤ 2 ^ hbits w → limit ≤ 2 ^ 31 → Inside limit v → to_z w (of_z w (to_z w64 (of_z w64 v))) ≡ v
-cast_kept w limit v l m good = ap (λ (z : ℤ). to_z w (of_z w z)) (to_z-of_z (inside_fits w64 limit v (omega arith) good)) ∙ to_z-of_z (inside_fits w limit v l good)
+-- a weight inside its store's limits, as the store's type takes it
+pub inside_mag : (limit : ℕ) (v : ℤ) → Inside limit v → mag v < limit
+inside_mag limit (pos n) good = good
+inside_mag limit (negsuc n) good = good

@@ -1,4 +1,4 @@
--- The slots of windows from lines that were scanned before: a row at a time, its weights over zeros. Cited by `fill_row16` and `fill_slots16`, and those of 32 bits.
+-- The slots of windows from lines that were scanned before: a row at a time, its weights over zeros. Cited by `fill_row` and `fill_slots`.
 -- Assumes nothing.
 use mathlib.Core.Path.{◌≡◌, refl, sym, ap, ◌∙◌}
 use mathlib.Core.Bool.{Bool, true, false}

@@ -28,15 +28,12 @@ pub fn fill_layout(
     ensures excesses { Whatever (window_lines lines window limit outs) text.now at (λ rows next. excesses.new ≡ front outs (excess_at precision rows) excesses.old) }
 {
     let mut p = at;
-    let mut i: u32 = 0;
-    while i < outs {
+    for i in 0..outs {
         let line = opened(i, lines, window, text, p);
         starts[i as usize] = line.start;
         sizes[i as usize] = line.size;
         let e = window_excess(precision, limit, line.size, text, line.next);
-        let excess = e.value;
-        excesses[i as usize] = excess;
+        excesses[i as usize] = e.value;
         p = e.next;
-        i += 1;
     }
 }

@@ -1,15 +1,14 @@
 // What is asked becomes a request, the request a set of doubles in lists of the program's own. A request that document 01 accepts needs at
 // most 57,344 slots (docs/DECISIONS.md, "Answers of the printing program"), so the lists are long enough.
 use crate::refused::{blank, refused};
-use crate::stores::{sheet16, sheet32};
+use crate::stores::sheet;
 use crate::{Asked, limits};
-use coefficients::Built;
+use coefficients::NotBuilt;
 use crop_box::CropBox;
 use plans::{Axis, Request};
 
 // The request: an image one column wide, built down its side.
 fn request(asked: Asked) -> Request {
-    let filter = asked.filter;
     Request {
         width: 1,
         height: asked.side,
@@ -21,7 +20,7 @@ fn request(asked: Asked) -> Request {
         },
         axis: Axis::Down,
         output: asked.output,
-        filter: filter,
+        filter: asked.filter,
         adapts: asked.adapts,
     }
 }
@@ -44,13 +43,40 @@ fn build(
 ) {
     let built = coefficients::build(request(asked), weights, starts, sizes);
     match built {
-        Built::Done(window) => count_slots(rt, asked, window, weights, starts, sizes),
-        Built::Blank(line) => blank(rt, line.0),
-        Built::Refused(refusal) => refused(rt, refusal, asked),
+        Ok(window) => count_slots(rt, asked, window, weights, starts, sizes),
+        Err(NotBuilt::Blank(line)) => blank(rt, line.0),
+        Err(NotBuilt::Refused(refusal)) => refused(rt, refusal, asked),
     }
 }
 
-// How many slots the set has: window size x output side.
+// A set of doubles, in lists as long as it is: window size slots, a start and a size for each window.
+#[derive(Clone, Copy)]
+pub(crate) struct Set<'a> {
+    pub(crate) window: u32,
+    pub(crate) weights: &'a [f64],
+    pub(crate) starts: &'a [u32],
+    pub(crate) sizes: &'a [u32],
+}
+
+// The set of so many windows, without the slots, starts and sizes that were not asked for; none where the lists are shorter.
+fn cut<'a>(
+    output: u32,
+    window: u32,
+    weights: &'a [f64],
+    starts: &'a [u32],
+    sizes: &'a [u32],
+) -> Option<Set<'a>> {
+    let n = output as usize;
+    let slots = n.checked_mul(window as usize)?;
+    Some(Set {
+        window,
+        weights: weights.get(..slots)?,
+        starts: starts.get(..n)?,
+        sizes: sizes.get(..n)?,
+    })
+}
+
+// The sheet of the set's own part of the lists, in the store that is asked for.
 fn count_slots(
     rt: HostRuntime,
     asked: Asked,
@@ -59,55 +85,14 @@ fn count_slots(
     starts: &[u32],
     sizes: &[u32],
 ) {
-    let n = asked.output as usize;
-    let w = window as usize;
-    if 8192 < n {
+    let Some(set) = cut(asked.output, window, weights, starts, sizes) else {
         return limits::slots(rt);
-    }
-    if 32769 < w {
-        return limits::slots(rt);
-    }
-    cut(rt, asked, window, n, n * w, weights, starts, sizes);
-}
-
-// The set without the slots, starts and sizes that were not asked for.
-fn cut(
-    rt: HostRuntime,
-    asked: Asked,
-    window: u32,
-    n: usize,
-    slots: usize,
-    weights: &[f64],
-    starts: &[u32],
-    sizes: &[u32],
-) {
-    let a: usize = 0;
-    if weights.len() < slots {
-        return limits::slots(rt);
-    }
-    if starts.len() < n {
-        return limits::slots(rt);
-    }
-    if sizes.len() < n {
-        return limits::slots(rt);
-    }
+    };
     if asked.narrow {
-        sheet16(
-            rt,
-            asked,
-            window,
-            &weights[a..slots],
-            &starts[a..n],
-            &sizes[a..n],
-        );
+        let mut store = [0i16; 65536];
+        sheet(rt, asked, set, &mut store);
     } else {
-        sheet32(
-            rt,
-            asked,
-            window,
-            &weights[a..slots],
-            &starts[a..n],
-            &sizes[a..n],
-        );
+        let mut store = [0i32; 65536];
+        sheet(rt, asked, set, &mut store);
     }
 }

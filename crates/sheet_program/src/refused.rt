@@ -1,140 +1,122 @@
 // What is said of a refusal of document 01: its number, its name, the argument at fault and the limit that it breaks.
-use crate::streams::{err, err_argument, err_number, out, out_argument, out_number};
+use crate::streams::{err_argument, out_argument};
 use crate::{Asked, limits};
-use refusal::Refusal;
+use refusal::{Numbered, Refusal};
+use std::str;
 
-fn number(rt: HostRuntime, refusal: Refusal, name: &[u8]) {
-    out(rt, b"refused=");
-    out_number(rt, refusal::number(refusal));
-    out(rt, b" name=");
-    out(rt, name);
+fn number(rt: HostRuntime, refusal: Refusal, name: &str) {
+    let number = refusal.number();
+    let _ = print!(rt; "refused={number} name={name}");
 }
 
 // Argument i, which is called `what`, against the limit.
-fn value(rt: HostRuntime, i: usize, what: &[u8], limit: &[u8], rule: &[u8]) {
-    out(rt, b" value=");
+fn value(rt: HostRuntime, i: usize, what: &str, limit: &str, rule: &str) {
+    let _ = print!(rt; " value=");
     out_argument(rt, i);
-    out(rt, b" limit=");
-    out(rt, limit);
-    out(rt, b"\n");
-    err(rt, what);
-    err(rt, b" ");
+    let _ = println!(rt; " limit={limit}");
+    let _ = eprint!(rt; "{what} ");
     err_argument(rt, i);
-    err(rt, b": ");
-    err(rt, rule);
-    err(rt, b" ");
-    err(rt, limit);
-    err(rt, b"\n");
+    let _ = eprintln!(rt; ": {rule} {limit}");
 }
 
 // A side below 1, or above 8,192.
-fn side(rt: HostRuntime, i: usize, what: &[u8], n: u32) {
+fn side(rt: HostRuntime, i: usize, what: &str, n: u32) {
     if n < 1 {
-        value(rt, i, what, b"1", b"it must be at least");
+        value(rt, i, what, "1", "it must be at least");
     } else {
-        value(rt, i, what, b"8192", b"it must be at most");
+        value(rt, i, what, "8192", "it must be at most");
     }
 }
 
 fn bad_side(rt: HostRuntime, near: u32, output: u32) {
-    number(rt, Refusal::BadSide, b"BadSide");
+    number(rt, Refusal::BadSide, "BadSide");
     if (output < 1) | (8192 < output) {
-        side(rt, 5, b"output side", output);
+        side(rt, 5, "output side", output);
     } else {
-        side(rt, 2, b"side", near);
+        side(rt, 2, "side", near);
     }
 }
 
 fn not_finite(rt: HostRuntime, near: f64) {
-    number(rt, Refusal::NotFinite, b"NotFinite");
-    if near - near == 0.0 {
-        value(rt, 4, b"extent", b"finite", b"it must be");
+    number(rt, Refusal::NotFinite, "NotFinite");
+    if near.is_finite() {
+        value(rt, 4, "extent", "finite", "it must be");
     } else {
-        value(rt, 3, b"near edge", b"finite", b"it must be");
+        value(rt, 3, "near edge", "finite", "it must be");
     }
 }
 
 fn negative_extent(rt: HostRuntime) {
-    number(rt, Refusal::NegativeExtent, b"NegativeExtent");
-    value(rt, 4, b"extent", b"0", b"it must not be below");
+    number(rt, Refusal::NegativeExtent, "NegativeExtent");
+    value(rt, 4, "extent", "0", "it must not be below");
 }
 
-fn start_outside(rt: HostRuntime, near: f64, side: &[u8]) {
-    number(rt, Refusal::StartOutside, b"StartOutside");
+fn start_outside(rt: HostRuntime, near: f64, side: &str) {
+    number(rt, Refusal::StartOutside, "StartOutside");
     if near < 0.0 {
-        value(rt, 3, b"near edge", b"0", b"it must be at least");
+        value(rt, 3, "near edge", "0", "it must be at least");
     } else {
-        value(rt, 3, b"near edge", side, b"it must be below the side,");
+        value(rt, 3, "near edge", side, "it must be below the side,");
     }
 }
 
-fn end_outside(rt: HostRuntime, side: &[u8]) {
-    number(rt, Refusal::EndOutside, b"EndOutside");
-    out(rt, b" near=");
+fn end_outside(rt: HostRuntime, side: &str) {
+    number(rt, Refusal::EndOutside, "EndOutside");
+    let _ = print!(rt; " near=");
     out_argument(rt, 3);
     value(
         rt,
         4,
-        b"extent",
+        "extent",
         side,
-        b"with the near edge it must not pass the side,",
+        "with the near edge it must not pass the side,",
     );
 }
 
 fn no_scale(rt: HostRuntime) {
-    let rule = b"the far edge less the near edge must be above";
-    number(rt, Refusal::NoScale, b"NoScale");
-    value(rt, 4, b"extent", b"0", rule);
+    let rule = "the far edge less the near edge must be above";
+    number(rt, Refusal::NoScale, "NoScale");
+    value(rt, 4, "extent", "0", rule);
 }
 
 // No. 16: a filter whose sheets are still read.
 fn retired_filter(rt: HostRuntime) {
-    number(rt, Refusal::RetiredFilter, b"RetiredFilter");
-    out(rt, b" value=");
+    number(rt, Refusal::RetiredFilter, "RetiredFilter");
+    let _ = print!(rt; " value=");
     out_argument(rt, 1);
-    out(rt, b" allowed=box,bilinear,catmullrom\n");
-    err(rt, b"filter ");
+    let _ = println!(rt; " allowed=box,bilinear,catmullrom");
+    let _ = eprint!(rt; "filter ");
     err_argument(rt, 1);
-    err(
-        rt,
-        b": it is retired; its sheets are read and run as before, but no new one is made. ",
+    let _ = eprint!(rt;
+        ": it is retired; its sheets are read and run as before, but no new one is made. "
     );
-    err(
-        rt,
-        b"Pick box, bilinear or catmullrom, which reaches as far\n",
-    );
+    let _ = eprintln!(rt; "Pick box, bilinear or catmullrom, which reaches as far");
 }
 
 fn weight_outside(rt: HostRuntime, narrow: bool) {
-    number(rt, Refusal::WeightOutside, b"WeightOutside");
+    number(rt, Refusal::WeightOutside, "WeightOutside");
     if narrow {
-        out(rt, b" store=16\n");
-        err(rt, b"a weight does not fit the 16-bit store; take 32\n");
+        let _ = println!(rt; " store=16");
+        let _ = eprintln!(rt; "a weight does not fit the 16-bit store; take 32");
     } else {
-        out(rt, b" store=32\n");
-        err(rt, b"a weight does not fit the 32-bit store\n");
+        let _ = println!(rt; " store=32");
+        let _ = eprintln!(rt; "a weight does not fit the 32-bit store");
     }
 }
 
 // No. 8: the first display line whose weights total 0.
 pub(crate) fn blank(rt: HostRuntime, line: u32) {
-    number(rt, Refusal::BlankWindow, b"BlankWindow");
-    out(rt, b" line=");
-    out_number(rt, line);
-    out(rt, b"\n");
-    err(rt, b"display line ");
-    err_number(rt, line);
-    err(
-        rt,
-        b": its weights total 0; take a wider extent or another filter\n",
+    number(rt, Refusal::BlankWindow, "BlankWindow");
+    let _ = println!(rt; " line={line}");
+    let _ = eprintln!(rt;
+        "display line {line}: its weights total 0; take a wider extent or another filter"
     );
 }
 
 // The refusals of a request or a normaliser. Those that speak of room are the program's own limits.
 pub(crate) fn refused(rt: HostRuntime, refusal: Refusal, asked: Asked) {
-    let mut text = [0u8; 64];
-    let n = program_streams::argument(rt, 2, &mut text);
-    let side = &text[..n];
+    let mut room = [0u8; 64];
+    let side = str::from_utf8(program_streams::argument(rt, 2, &mut room)).unwrap_or("");
     match refusal {
         Refusal::RetiredFilter => retired_filter(rt),
         Refusal::BadSide => bad_side(rt, asked.side, asked.output),

@@ -1,135 +1,58 @@
 // The set as integers of a store, and the sheet of it, printed.
+use crate::making::Set;
 use crate::refused::refused;
-use crate::streams::out;
 use crate::{Asked, limits};
-use normalizer::Normalized;
+use program_streams::out;
 use refusal::Refusal;
-use sheet::Sheet;
+use windows::Weight;
 
-// In the 16-bit store.
-pub(crate) fn sheet16(
-    rt: HostRuntime,
-    asked: Asked,
-    window: u32,
-    weights: &[f64],
-    starts: &[u32],
-    sizes: &[u32],
-) {
-    let mut store = [0i16; 65536];
+// The set in the store, and its sheet.
+pub(crate) fn sheet<W: Weight>(rt: HostRuntime, asked: Asked, set: Set<'_>, store: &mut [W]) {
     let mut excesses = [0i64; 8192];
     let mut text = [0u8; 524288];
-    let side = asked.side;
-    let normalized = normalizer::normalize16(
-        side,
-        window,
-        weights,
-        starts,
-        sizes,
-        &mut store,
+    let normalized = normalizer::normalize(
+        asked.side,
+        set.window,
+        set.weights,
+        set.starts,
+        set.sizes,
+        store,
         &mut excesses,
     );
-    let Normalized::Done(precision) = normalized else {
-        refused(rt, refusal_of(normalized), asked);
-        return;
+    let precision = match normalized {
+        Ok(precision) => precision,
+        Err(refusal) => return refused(rt, refusal, asked),
     };
-    let a: usize = 0;
-    let n = weights.len();
-    let m = starts.len();
-    if 65536 < n {
+    let n = set.weights.len();
+    let m = set.starts.len();
+    if store.len() < n || 8192 < m {
         return limits::slots(rt);
     }
-    if 8192 < m {
-        return limits::slots(rt);
-    }
-    let filter = asked.filter;
-    let used = &store[a..n];
-    let written = write_sheets::write_sheet16(
-        filter,
-        side,
-        window,
+    let written = write_sheets::write(
+        asked.filter,
+        asked.side,
+        set.window,
         precision,
-        used,
-        starts,
-        sizes,
-        &excesses[a..m],
+        &store[..n],
+        set.starts,
+        set.sizes,
+        &excesses[..m],
         program_streams::room(&mut text),
     );
     show(rt, asked, written, &text);
-}
-
-// In the 32-bit store.
-pub(crate) fn sheet32(
-    rt: HostRuntime,
-    asked: Asked,
-    window: u32,
-    weights: &[f64],
-    starts: &[u32],
-    sizes: &[u32],
-) {
-    let mut store = [0i32; 65536];
-    let mut excesses = [0i64; 8192];
-    let mut text = [0u8; 524288];
-    let side = asked.side;
-    let normalized = normalizer::normalize32(
-        side,
-        window,
-        weights,
-        starts,
-        sizes,
-        &mut store,
-        &mut excesses,
-    );
-    let Normalized::Done(precision) = normalized else {
-        refused(rt, refusal_of(normalized), asked);
-        return;
-    };
-    let a: usize = 0;
-    let n = weights.len();
-    let m = starts.len();
-    if 65536 < n {
-        return limits::slots(rt);
-    }
-    if 8192 < m {
-        return limits::slots(rt);
-    }
-    let filter = asked.filter;
-    let used = &store[a..n];
-    let written = write_sheets::write_sheet32(
-        filter,
-        side,
-        window,
-        precision,
-        used,
-        starts,
-        sizes,
-        &excesses[a..m],
-        program_streams::room(&mut text),
-    );
-    show(rt, asked, written, &text);
-}
-
-// A normaliser's refusal.
-fn refusal_of(normalized: Normalized) -> Refusal {
-    match normalized {
-        Normalized::Done(_) => Refusal::WeightOutside,
-        Normalized::Refused(refusal) => refusal,
-    }
 }
 
 // Prints the text that was written.
-fn show(rt: HostRuntime, asked: Asked, written: Sheet, text: &[u8]) {
+fn show(rt: HostRuntime, asked: Asked, written: Result<u64, Refusal>, text: &[u8]) {
     match written {
-        Sheet::Written(length) => print_text(rt, length, text),
-        Sheet::Refused(refusal) => refused(rt, refusal, asked),
+        Ok(length) => print_text(rt, length, text),
+        Err(refusal) => refused(rt, refusal, asked),
     }
 }
 
 // The first bytes of the list, which are the text.
 fn print_text(rt: HostRuntime, length: u64, text: &[u8]) {
-    let a: usize = 0;
-    let n = length as usize;
-    if text.len() < n {
-        return;
+    if let Some(written) = text.get(..length as usize) {
+        out(rt, written);
     }
-    out(rt, &text[a..n]);
 }

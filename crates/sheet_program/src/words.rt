@@ -1,86 +1,55 @@
 // The arguments in their order: filter, side, near edge, extent, output side, then where wished `adapt` or `fixed`, then `16` or `32`.
-use crate::arguments::{Name, Whole, edge_at, filter_at, is_at, whole_at};
+use crate::arguments::{Argument, edge_at, filter_at, is_at, whole_at};
 use crate::unread::unread;
 use crate::{Asked, making};
-use crop_edges::Edge;
 
-// Whether the kernel adapts and whether the store is the narrow one, or the argument that is not understood.
-#[derive(Drop)]
-enum Options {
-    Is(bool, bool),
-    Unread(usize),
-}
-
-// The store that argument i chooses, 32 bits where there is none; it is the last argument.
-fn store_at(rt: HostRuntime, i: usize, adapts: bool) -> Options {
+// Whether argument i chooses the narrow store: 32 bits where there is none. It is the last argument.
+fn narrow_at(rt: HostRuntime, i: usize) -> Result<bool, Argument> {
     let n = program_streams::argument_count(rt);
     if n <= i {
-        return Options::Is(adapts, false);
+        return Ok(false);
     }
     if i < n - 1 {
-        return Options::Unread(n - 1);
+        return Err(Argument::Option(n - 1));
     }
     if is_at(rt, i, b"16") {
-        return Options::Is(adapts, true);
+        return Ok(true);
     }
     if is_at(rt, i, b"32") {
-        return Options::Is(adapts, false);
+        return Ok(false);
     }
-    Options::Unread(i)
+    Err(Argument::Option(i))
 }
 
-// The arguments after the output side.
-fn chosen(rt: HostRuntime) -> Options {
-    if is_at(rt, 6, b"adapt") {
-        return store_at(rt, 7, true);
-    }
-    if is_at(rt, 6, b"fixed") {
-        return store_at(rt, 7, false);
-    }
-    store_at(rt, 6, true)
+// What is asked, or the first argument that is not understood.
+fn asked(rt: HostRuntime) -> Result<Asked, Argument> {
+    let filter = filter_at(rt, 1).ok_or(Argument::Filter)?;
+    let side = whole_at(rt, 2).ok_or(Argument::Side)?;
+    let near = edge_at(rt, 3).ok_or(Argument::Near)?;
+    let extent = edge_at(rt, 4).ok_or(Argument::Extent)?;
+    let output = whole_at(rt, 5).ok_or(Argument::Output)?;
+    let fixed = is_at(rt, 6, b"fixed");
+    let store_at = if fixed || is_at(rt, 6, b"adapt") {
+        7
+    } else {
+        6
+    };
+    let narrow = narrow_at(rt, store_at)?;
+    Ok(Asked {
+        filter,
+        side,
+        near,
+        extent,
+        output,
+        adapts: !fixed,
+        narrow,
+    })
 }
 
 // Reads the arguments from the first on, and prints the sheet, or what is wrong with the first that is not understood.
 pub(crate) fn answer(rt: HostRuntime) {
-    let filter_read = filter_at(rt, 1);
-    let Name::Is(filter) = filter_read else {
-        unread(rt, 1);
-        return;
-    };
-    let side_read = whole_at(rt, 2);
-    let Whole::Is(side) = side_read else {
-        unread(rt, 2);
-        return;
-    };
-    let near_read = edge_at(rt, 3);
-    let Edge::At(near) = near_read else {
-        unread(rt, 3);
-        return;
-    };
-    let extent_read = edge_at(rt, 4);
-    let Edge::At(extent) = extent_read else {
-        unread(rt, 4);
-        return;
-    };
-    let output_read = whole_at(rt, 5);
-    let Whole::Is(output) = output_read else {
-        unread(rt, 5);
-        return;
-    };
-    let options = chosen(rt);
-    match options {
-        Options::Is(adapts, narrow) => making::print(
-            rt,
-            Asked {
-                filter: filter,
-                side: side,
-                near: near,
-                extent: extent,
-                output: output,
-                adapts: adapts,
-                narrow: narrow,
-            },
-        ),
-        Options::Unread(i) => unread(rt, i),
+    match asked(rt) {
+        Ok(asked) => making::print(rt, asked),
+        Err(argument) => unread(rt, argument),
     }
 }

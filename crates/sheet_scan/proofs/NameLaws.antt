@@ -20,9 +20,8 @@ use Rattle.text.proofs.WordLaws.{common_same, common_other}
 use Rattle.scan.proofs.CommonLaws.{common_append, common_right, common_whole}
 use Rattle.scan.proofs.FormLaws.{found_then, stopped_first, stopped_then, stopped_same}
 use Rattle.scan.proofs.FieldLaws.{apart_key}
-use Rattle.sheet_scan.specs.declared.Kind.{Kind}
-use Rattle.sheet_scan.specs.declared.Kind.TheVariants.{Named, NoName}
-use Rattle.sheet_scan.specs.Answers.{ScansKind}
+use Rattle.std.specs.Prelude.{Result, Ok, Err}
+use Rattle.scan.specs.Answer.{Scans}
 use Rattle.sheet_scan.specs.Lines.{name_line, kind_line}
 
 -- all of a name and its newline is shared: it is there
@@ -98,9 +97,9 @@ kind_no_key s =
     stopped_same (and_then (fixed key_kind) (λ (u : Unit {0}). name_line)) kind_line there back
     (stopped_first (fixed key_kind) (λ (u : Unit {0}). name_line) (λ a good. (Box, tt)) s)
 
-pub kind_scans : {text : List ℕ} {at mid : ℕ} (r : Kind) → Found (fixed key_kind) text at tt mid → ScansKind name_line text mid r → ScansKind kind_line text at r
+pub kind_scans : {text : List ℕ} {at mid : ℕ} (r : Result (FilterType × ℕ) ℕ) → Found (fixed key_kind) text at tt mid → Scans name_line text mid r → Scans kind_line text at r
 unfolding kind_text
-kind_scans {text} {at} (Named k next) f g =
+kind_scans {text} {at} (Ok (k, next)) f g =
     let both = found_then (fixed key_kind) (λ (u : Unit {0}). name_line) f g in
     let same : key_kind ++ (kind_name k ++ newline) ≡ kind_text k = sym (append_assoc key_kind (kind_name k) newline) in
     record {
@@ -108,7 +107,7 @@ kind_scans {text} {at} (Named k next) f g =
       place = both.place ∙ ap (λ (t : List ℕ). at + length t) same;
       begins = both.begins ∙ ap (λ (t : List ℕ). t ++ drop next text) same;
     }
-kind_scans (NoName stop) f g =
+kind_scans (Err stop) f g =
     stopped_same (and_then (fixed key_kind) (λ (u : Unit {0}). name_line)) kind_line there back
     (stopped_then (fixed key_kind) (λ (u : Unit {0}). name_line) (apart_key key_kind) f g)
 

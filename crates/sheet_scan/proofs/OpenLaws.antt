@@ -9,8 +9,7 @@ use lib.ListN.{length, drop}
 use Rattle.text.specs.Text.{decimal, field_text}
 use Rattle.sheet.specs.Keys.{key_line, equals, comma, colon}
 use Rattle.sheet.specs.Text.{open_text}
-use Rattle.scan.specs.declared.Place.{Place}
-use Rattle.scan.specs.declared.Place.TheVariants.{Past, Stop}
+use Rattle.std.specs.Prelude.{Result, Ok, Err}
 use Rattle.scan.specs.Form.{Form, Found, Stopped, Apart}
 use Rattle.scan.specs.Forms.{and_then, run}
 use Rattle.scan.specs.Number.{fields, numbers, NoDigit}
@@ -149,11 +148,11 @@ module _ (lines window limit i : ℕ) where
       stopped_same parts (window_line lines window limit i) to from
       (stopped_first (open_line lines window i) weights (λ p good. run_of (weight_item limit p.1) (item_zero limit p.1 l) 0 p.1) s)
 
-  pub window_passes : lines < 2 ^ 32 → {text : List ℕ} {at mid start size : ℕ} (r : Place) → Found (open_line lines window i) text at (start, size) mid → Passes (run (weight_item limit size) 0 size) text mid r → Passes (window_line lines window limit i) text at r
-  window_passes lines_small {text} {at} {mid} {start} {size} (Past next) f g =
+  pub window_passes : lines < 2 ^ 32 → {text : List ℕ} {at mid start size : ℕ} (r : Result ℕ ℕ) → Found (open_line lines window i) text at (start, size) mid → Passes (run (weight_item limit size) 0 size) text mid r → Passes (window_line lines window limit i) text at r
+  window_passes lines_small {text} {at} {mid} {start} {size} (Ok next) f g =
       let found = found_then (open_line lines window i) weights f g.1 in
       (row ((start, size), g.0), record { good = (f.good.0, f.good.1, f.good.2, g.1.good); place = found.place; begins = found.begins })
-  window_passes lines_small (Stop stop) f g =
+  window_passes lines_small (Err stop) f g =
       stopped_same parts (window_line lines window limit i) to from
       (stopped_then (open_line lines window i) weights (apart_open lines window i lines_small) f g)
 

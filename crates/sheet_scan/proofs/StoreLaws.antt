@@ -14,8 +14,7 @@ use Rattle.text.specs.Text.{decimal, digit_count_value, line_text}
 use Rattle.windows.specs.Store.{store16, store32, largest_precision}
 use Rattle.sheet.specs.Keys.{key_store, key_precision, newline}
 use Rattle.sheet.specs.Text.{store_text}
-use Rattle.scan.specs.declared.Number.{Number}
-use Rattle.scan.specs.declared.Number.TheVariants.{Read, Not}
+use Rattle.std.specs.Prelude.{Result, Ok, Err}
 use Rattle.text.specs.Words.{common}
 use Rattle.scan.specs.Form.{Form, Found, Stopped, Apart}
 use Rattle.scan.specs.Forms.{fixed, and_then}
@@ -78,8 +77,8 @@ module _ (wide : Bool) where
       stopped_same (and_then (fixed key_store) (λ (u : Unit {0}). bits_line wide)) (store_line wide) there back
       (stopped_first (fixed key_store) (λ (u : Unit {0}). bits_line wide) (λ a good. (16, inl refl)) s)
 
-  pub store_scans : {text : List ℕ} {at mid : ℕ} (r : Number) → Found (fixed key_store) text at tt mid → Scans (bits_line wide) text mid r → Scans (store_line wide) text at r
-  store_scans {text} {at} (Read n next) f g =
+  pub store_scans : {text : List ℕ} {at mid : ℕ} (r : Result (ℕ × ℕ) ℕ) → Found (fixed key_store) text at tt mid → Scans (bits_line wide) text mid r → Scans (store_line wide) text at r
+  store_scans {text} {at} (Ok (n, next)) f g =
       let both = found_then (fixed key_store) (λ (u : Unit {0}). bits_line wide) f g in
       let same : key_store ++ (decimal n ++ newline) ≡ line_text key_store n = sym (line_is key_store n) in
       record {
@@ -87,7 +86,7 @@ module _ (wide : Bool) where
         place = both.place ∙ ap (λ (t : List ℕ). at + length t) same;
         begins = both.begins ∙ ap (λ (t : List ℕ). t ++ drop next text) same;
       }
-  store_scans (Not stop) f g =
+  store_scans (Err stop) f g =
       stopped_same (and_then (fixed key_store) (λ (u : Unit {0}). bits_line wide)) (store_line wide) there back
       (stopped_then (fixed key_store) (λ (u : Unit {0}). bits_line wide) (apart_key key_store) f g)
 

@@ -1,13 +1,11 @@
 -- The lines that go with the head lines, and what is scanned after the size lines. Cited by `scan_rest` and the functions that fill the lent lists.
 -- Definitions only. Assumes nothing.
-use Rattle.std.specs.Prelude.{Bool, List, ℕ, ℤ, pos, get_or}
+use Rattle.std.specs.Prelude.{Bool, List, ℕ, ℤ, pos, get_or, Result, Ok, Err}
 use Rattle.sheet.specs.Text.{excess_text}
 use Rattle.scan.specs.Form.{Form, Found, Stopped}
 use Rattle.scan.specs.Forms.{and_then, tailed}
 use Rattle.sheet_scan.specs.declared.Sizes.{Sizes}
 use Rattle.sheet_scan.specs.declared.StoreLines.{StoreLines}
-use Rattle.sheet_scan.specs.declared.After.{After}
-use Rattle.sheet_scan.specs.declared.After.TheVariants.{Rest, NoRest}
 use Rattle.sheet_scan.specs.Language.{limit_of_value}
 use Rattle.sheet_scan.specs.Lines.{Row, store_lines, window_lines}
 use Rattle.sheet_scan.specs.Rows.{excesses_of}
@@ -28,9 +26,9 @@ abbrev pub rest_lines : Bool → Sizes → Form ((w : StoreLines) × List Row)
 rest_lines wide v = and_then (store_lines wide) (body_lines v)
 
 -- the store's lines and the windows' lines were found, or where all that comes after the size lines stops
-abbrev pub ScansRest : Bool → Sizes → List ℕ → ℕ → After → Type 0
-ScansRest wide v text at (Rest w mid next) = Found (store_lines wide) text at w mid × ((rows : List Row) × Found (lines_of v w) text mid rows next)
-ScansRest wide v text at (NoRest stop) = Stopped (rest_lines wide v) text at stop
+abbrev pub ScansRest : Bool → Sizes → List ℕ → ℕ → Result (StoreLines × ℕ × ℕ) ℕ → Type 0
+ScansRest wide v text at (Ok (w, mid, next)) = Found (store_lines wide) text at w mid × ((rows : List Row) × Found (lines_of v w) text mid rows next)
+ScansRest wide v text at (Err stop) = Stopped (rest_lines wide v) text at stop
 
 -- some value is there
 abbrev pub There : {A : Type 0} → Form A → List ℕ → ℕ → Type 0
@@ -46,7 +44,3 @@ slot_of l k = get_or l k (pos 0)
 
 abbrev pub no_weight : ℕ → ℤ
 no_weight k = pos 0
-
-abbrev pub rest_place : After → ℕ
-rest_place (Rest w mid next) = next
-rest_place (NoRest stop) = stop

@@ -4,83 +4,58 @@ ghost use Rattle.windows.specs.Store.{largest_precision};
 ghost use Rattle.scan.specs.Answer.{Scans};
 ghost use Rattle.sheet_scan.specs.Language.{store_named_value};
 ghost use Rattle.sheet_scan.specs.Lines.{size_lines, store_line, store_lines, bits_line};
-ghost use Rattle.sheet_scan.specs.Answers.{ScansSizes, ScansStore, kind_place};
 
-use crate::names::{further, take_kind};
-use crate::{Kind, Sizes, SizesAt, StoreAt, StoreLines};
-use scan::{Number, Place, number_stop, take_field, take_key};
+use crate::names::take_kind;
+use crate::{Sizes, StoreLines};
+use scan::{take_field, take_key};
 use sheet::keys;
 use text::shared;
 use windows::{STORE16, STORE32, Store};
 
-// The place of an answer.
-fn kind_stop(k: Kind) -> usize
-    ensures answer { result ≡ kind_place k }
-{
-    match k {
-        Kind::Named(_, next) => next,
-        Kind::NoName(stop) => stop,
-    }
-}
-
 // The kind line and the three size lines.
-pub fn scan_sizes(text: &[u8], at: usize) -> SizesAt
+pub fn scan_sizes(text: &[u8], at: usize) -> Result<(Sizes, usize), usize>
     requires { at ≤ length text.now }
-    ensures answer { ScansSizes size_lines text.now at result }
+    ensures answer { Scans size_lines text.now at result }
 {
-    let k = take_kind(text, at);
-    let Kind::Named(kind, a) = k else {
-        return SizesAt::NoSizes(kind_stop(k));
-    };
-    let l = take_field(&keys::IN, 1, 8192, b'\n', text, a);
-    let Number::Read(lines, b) = l else {
-        return SizesAt::NoSizes(number_stop(l));
-    };
-    let o = take_field(&keys::OUT, 1, 8192, b'\n', text, b);
-    let Number::Read(outs, c) = o else {
-        return SizesAt::NoSizes(number_stop(o));
-    };
-    let w = take_field(&keys::WINDOW, 1, 32769, b'\n', text, c);
-    let Number::Read(window, next) = w else {
-        return SizesAt::NoSizes(number_stop(w));
-    };
+    let (kind, a) = take_kind(text, at)?;
+    let (lines, b) = take_field(&keys::IN, 1, 8192, b'\n', text, a)?;
+    let (outs, c) = take_field(&keys::OUT, 1, 8192, b'\n', text, b)?;
+    let (window, next) = take_field(&keys::WINDOW, 1, 32769, b'\n', text, c)?;
     let sizes = Sizes {
         kind,
         lines: lines as u32,
         windows: outs as u32,
         window_size: window as u32,
     };
-    SizesAt::Sized(sizes, next)
+    Ok((sizes, next))
 }
 
 // The bits of the store and a newline: 16, or 32 where it is taken.
-fn take_bits(wide: bool, text: &[u8], at: usize) -> Number
+fn take_bits(wide: bool, text: &[u8], at: usize) -> Result<(u64, usize), usize>
     requires { at ≤ length text.now }
     ensures answer { Scans (bits_line wide) text.now at result }
 {
     let a = shared(b"16\n", text, at);
     if a == 3 {
-        return Number::Read(16, at + a);
+        return Ok((16, at + a));
     }
     if !wide {
-        return Number::Not(at + a);
+        return Err(at + a);
     }
     let b = shared(b"32\n", text, at);
     if b == 3 {
-        return Number::Read(32, at + b);
+        return Ok((32, at + b));
     }
-    Number::Not(at + further(a, b))
+    Err(at + a.max(b))
 }
 
 // The store's line.
-fn take_store(wide: bool, text: &[u8], at: usize) -> Number
+fn take_store(wide: bool, text: &[u8], at: usize) -> Result<(u64, usize), usize>
     requires { at ≤ length text.now }
     ensures answer { Scans (store_line wide) text.now at result }
 {
-    match take_key(&keys::STORE, text, at) {
-        Place::Stop(stop) => Number::Not(stop),
-        Place::Past(next) => take_bits(wide, text, next),
-    }
+    let next = take_key(&keys::STORE, text, at)?;
+    take_bits(wide, text, next)
 }
 
 // The store whose weights have so many bits, 16 or 32.
@@ -102,21 +77,15 @@ fn most_of(bits: u64) -> u64
 }
 
 // The store's line and the precision's.
-pub(crate) fn scan_store(wide: bool, text: &[u8], at: usize) -> StoreAt
+pub(crate) fn scan_store(wide: bool, text: &[u8], at: usize) -> Result<(StoreLines, usize), usize>
     requires { at ≤ length text.now }
-    ensures answer { ScansStore (store_lines wide) text.now at result }
+    ensures answer { Scans (store_lines wide) text.now at result }
 {
-    let s = take_store(wide, text, at);
-    let Number::Read(bits, a) = s else {
-        return StoreAt::NoStore(number_stop(s));
-    };
-    let p = take_field(&keys::PRECISION, 4, most_of(bits), b'\n', text, a);
-    let Number::Read(precision, next) = p else {
-        return StoreAt::NoStore(number_stop(p));
-    };
+    let (bits, a) = take_store(wide, text, at)?;
+    let (precision, next) = take_field(&keys::PRECISION, 4, most_of(bits), b'\n', text, a)?;
     let lines = StoreLines {
         bits: bits as u32,
         precision: precision as u32,
     };
-    StoreAt::Stored(lines, next)
+    Ok((lines, next))
 }

@@ -1,5 +1,5 @@
 // `sheet_scan`: the text of a sheet looked over at any place of a lent text, nothing kept. `scan_sizes` takes the kind line and the three size lines, `scan_rest` all
-// after them; each gives the place after its lines, or where the text stops being like the writer's. `wide` says whether sheets of the 32-bit store are taken too.
+// after them; each answers `Ok` with what its lines say and the place after them, or `Err` with the place where the text stops being like the writer's. `wide` says whether sheets of the 32-bit store are taken too.
 #![tactic(auto)]
 
 mod heads;
@@ -10,7 +10,7 @@ mod rows;
 use filters::FilterType;
 pub use heads::scan_sizes;
 pub use rest::{limit_of, scan_rest};
-pub use rows::{item_end, place_stop, scan_weights, take_open};
+pub use rows::{item_end, scan_weights, take_open};
 
 // What the first four lines of a sheet say.
 #[derive(Clone, Copy)]
@@ -28,35 +28,10 @@ pub struct StoreLines {
     pub precision: u32,
 }
 
-// A value and the place after it, or the place where the text stops being like one.
-#[derive(Drop)]
-pub enum Kind {
-    Named(FilterType, usize),
-    NoName(usize),
-}
-
-#[derive(Drop)]
-pub enum SizesAt {
-    Sized(Sizes, usize),
-    NoSizes(usize),
-}
-
-#[derive(Drop)]
-pub enum StoreAt {
-    Stored(StoreLines, usize),
-    NoStore(usize),
-}
-
 // The beginning of a window's line: its first camera line, its count of lines and the place of its weights.
 #[derive(Drop)]
-pub enum Open {
-    Window(u32, u32, usize),
-    NoWindow(usize),
-}
-
-// All after the size lines: what the store's lines say, the place of the windows' lines and the place after them.
-#[derive(Drop)]
-pub enum After {
-    Rest(StoreLines, usize, usize),
-    NoRest(usize),
+pub struct WindowAt {
+    pub start: u32,
+    pub size: u32,
+    pub next: usize,
 }

@@ -1,5 +1,6 @@
 -- What the answer "done" says of the sideways pass: whole pixels, and the tests of the vertical pass on the exchanged frame. Cited by the theorems and by the pass.
 -- Assumes nothing.
+use Rattle.std.specs.Prelude.{Ok}
 use mathlib.Core.Path.{◌≡◌}
 use mathlib.Core.Bool.{false, not}
 use Prim.Native.Nat.{ℕ, ◌*◌, ◌/◌, ◌%◌}
@@ -11,7 +12,6 @@ use Rattle.lists.specs.Ranges.{outside}
 use Rattle.lists.proofs.BoolLaws.{ladder, or_left, or_right}
 use Rattle.lists.proofs.RangeLaws.{InRange, not_outside}
 use Rattle.windows.specs.Set.{Stored}
-use Rattle.vertical.specs.declared.Passed.TheVariants.{Done}
 use Rattle.vertical.specs.U16.{passed_u16}
 use Rattle.vertical.proofs.Answers.{refused}
 use Rattle.sideways.specs.Sideways.{bad_pixels, passed_sideways}
@@ -32,10 +32,10 @@ pixels_fit components row h =
 -- neither test refused
 pub record DoneSideways (s : Stored) (samples components rows row first count room : ℕ) : Type 0 where
   pub pixels : bad_pixels components row ≡ false
-  pub vertical : passed_u16 s samples (rows * components) (first * components) (count * components) room ≡ Done
+  pub vertical : passed_u16 s samples (rows * components) (first * components) (count * components) room ≡ Ok tt
 
 module _ (s : Stored) (samples components rows row first count room : ℕ) where
-  pub done_sideways : passed_sideways s samples components rows row first count room ≡ Done → DoneSideways s samples components rows row first count room
+  pub done_sideways : passed_sideways s samples components rows row first count room ≡ Ok tt → DoneSideways s samples components rows row first count room
   unfolding passed_sideways
   done_sideways h =
       let t = ladder (bad_pixels components row) refused h in

@@ -1,5 +1,6 @@
 -- The proofs of `SidewaysAnswers`, `SidewaysIsVertical` and `RowsCut`. The value is defined on the exchanged frame; what is left is that the exchanged list has that frame, and
 -- where the values stand. Assumes nothing.
+use Rattle.std.specs.Prelude.{Ok}
 use mathlib.Core.Path.{◌≡◌, refl, sym, ap, ◌∙◌, subst}
 use mathlib.Core.Bool.{false}
 use mathlib.Core.List.{List}
@@ -13,7 +14,6 @@ use Rattle.lists.proofs.TabLaws.{length_tab}
 use Rattle.integers.proofs.Sums.{total_ext}
 use Rattle.windows.specs.Set.{Stored, windows, start, size, weight, sample}
 use Rattle.windows.specs.Store.{store32}
-use Rattle.vertical.specs.declared.Passed.TheVariants.{Done}
 use Rattle.vertical.specs.Frame.{frame, output}
 use Rattle.vertical.specs.U16.{value_at, passed_u16, written_u16}
 use Rattle.vertical.proofs.Answers.{Shaped, tests_u16, tests_shaped, same_frame}
@@ -74,7 +74,7 @@ module _ (s : Stored) (src : List ℕ) (components rows pixels first count : ℕ
       answer_of s (length src) components rows (pixels * components) first count room h
       ∙ ap (λ (n : ℕ). passed_u16 s n (rows * components) (first * components) (count * components) room) same
 
-  module _ (old : List ℕ) (lines : s.set.layout.lines ≡ pixels) (done : passed_sideways s (length src) components rows (pixels * components) first count (length old) ≡ Done) where
+  module _ (old : List ℕ) (lines : s.set.layout.lines ≡ pixels) (done : passed_sideways s (length src) components rows (pixels * components) first count (length old) ≡ Ok tt) where
     fits : Shaped s.set (length src) (rows * components) (first * components) (count * components) (length old)
     fits =
         let t = done_sideways s (length src) components rows (pixels * components) first count (length old) done in
@@ -90,7 +90,7 @@ module _ (s : Stored) (src : List ℕ) (components rows pixels first count : ℕ
     long : length src ≡ rows * (pixels * components)
     long = fits.whole ∙ ap (λ (n : ℕ). n * (rows * components)) lines ∙ mul_left_comm pixels rows components
 
-    vertical_done : passed_u16 s (length list) (rows * components) (first * components) (count * components) (length old) ≡ Done
+    vertical_done : passed_u16 s (length list) (rows * components) (first * components) (count * components) (length old) ≡ Ok tt
     vertical_done = sym (answers (length old) (done_sideways s (length src) components rows (pixels * components) first count (length old) done).pixels long) ∙ done
 
     both : (exchanged 0 components count (windows s.set.layout * components) (written_sideways s src components rows (pixels * components) first count old) ≡ written_u16 s list (rows * components) (first * components) (count * components) old)
@@ -115,8 +115,8 @@ sideways_is_vertical s src components rows row first count old lines done =
     let p = pixels_fit components row t.pixels in
     let some : 0 < components = omega (arith, p.few) in
     subst
-    (λ (r : ℕ). passed_sideways s (length src) components rows r first count (length old) ≡ Done
-    → (passed_u16 s (length (exchanged 0 components rows r src)) (rows * components) (first * components) (count * components) (length old) ≡ Done)
+    (λ (r : ℕ). passed_sideways s (length src) components rows r first count (length old) ≡ Ok tt
+    → (passed_u16 s (length (exchanged 0 components rows r src)) (rows * components) (first * components) (count * components) (length old) ≡ Ok tt)
     × (exchanged 0 components count (windows s.set.layout * components) (written_sideways s src components rows r first count old) ≡ written_u16 s (exchanged 0 components rows r src) (rows * components) (first * components) (count * components) old)
     × (written_sideways s src components rows r first count old ≡ exchanged 0 components (windows s.set.layout) (count * components) (written_u16 s (exchanged 0 components rows r src) (rows * components) (first * components) (count * components) old)))
     p.full
@@ -127,8 +127,8 @@ sideways_is_vertical s src components rows row first count old lines done =
     ))
     done
 
-range_done : (s : Stored) (samples components rows row room : ℕ) → passed_sideways s samples components rows row 0 rows room ≡ Done
-    → (first count room₂ : ℕ) → first + count ≤ rows → room₂ ≡ count * (windows s.set.layout * components) → passed_sideways s samples components rows row first count room₂ ≡ Done
+range_done : (s : Stored) (samples components rows row room : ℕ) → passed_sideways s samples components rows row 0 rows room ≡ Ok tt
+    → (first count room₂ : ℕ) → first + count ≤ rows → room₂ ≡ count * (windows s.set.layout * components) → passed_sideways s samples components rows row first count room₂ ≡ Ok tt
 unfolding passed_sideways passed_u16
 range_done s samples components rows row room done first count room₂ fit rooms =
     let d = done_sideways s samples components rows row 0 rows room done in

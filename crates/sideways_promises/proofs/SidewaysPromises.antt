@@ -1,5 +1,6 @@
 -- The proofs: a call that is not refused has every sample in use inside the frame, and what stands at a place of its output is the value of its window at the exchanged frame's
 -- column, of which the laws of the vertical pass speak. Assumes nothing.
+use Rattle.std.specs.Prelude.{Ok}
 use mathlib.Core.Path.{◌≡◌, refl, sym, ap, ◌∙◌, subst}
 use mathlib.Core.List.{List}
 use Prim.Native.Nat.{ℕ, ◌+◌, ◌*◌, ◌/◌, ◌%◌, ◌^◌, ◌≤◌, ◌<◌}
@@ -15,7 +16,6 @@ use Rattle.integers.proofs.Sums.{total_ext}
 use Rattle.windows.specs.Set.{Stored, windows, start, size, weight, distance_of}
 use Rattle.windows.specs.Store.{store32}
 use Rattle.excesses.proofs.StoredLaws.{stored_precise}
-use Rattle.vertical.specs.declared.Passed.TheVariants.{Done}
 use Rattle.vertical.specs.Frame.{frame}
 use Rattle.vertical.specs.U16.{value_at}
 use Rattle.vertical.proofs.Answers.{Shaped, Tests, tests_u16, tests_shaped}
@@ -32,7 +32,7 @@ use Rattle.sideways_promises.specs.SidewaysPromises.{along, Taken, Place, placed
 
 -- ---- a call that is not refused
 module _ (s : Stored) (samples components rows row first count room : ℕ) (taken : Taken s samples components rows row first count room) where
-  accepted : passed_sideways s samples components rows row first count room ≡ Done
+  accepted : passed_sideways s samples components rows row first count room ≡ Ok tt
   accepted = passed_done (passed_sideways s samples components rows row first count room) taken.done
 
   both : DoneSideways s samples components rows row first count room

@@ -1,4 +1,5 @@
 -- From what the tests of `horiz_convolution_u16` said to what the worker asks, and to its two clauses. Cited by its proof. Assumes nothing.
+use Rattle.std.specs.Prelude.{Result, Ok, Err, ⊤}
 use mathlib.Core.Path.{◌≡◌, refl, ap, ◌∙◌}
 use mathlib.Core.Bool.{Bool, true, false, ◌||◌}
 use mathlib.Core.List.{List}
@@ -17,8 +18,7 @@ use Rattle.windows.specs.Set.{Stored, windows, start, size, weight, sample}
 use Rattle.windows.specs.Store.{store32}
 use Rattle.windows.specs.Fit.{bad_stored}
 use Rattle.windows.proofs.Fits.{fits_most}
-use Rattle.vertical.specs.declared.Passed.{Passed}
-use Rattle.vertical.specs.declared.Passed.TheVariants.{Done, Refused}
+use Rattle.refusal.specs.declared.Refusal.{Refusal}
 use Rattle.vertical.specs.Column.{window_value}
 use Rattle.vertical.specs.Frame.{frame, bad_size, bad_area}
 use Rattle.vertical.specs.Ready.{Ready}
@@ -33,7 +33,7 @@ use Rattle.pixels_u16.specs.Places.{row_values}
 
 module _ (s : Stored) (src : List ℕ) (components rows row first count : ℕ) (old : List ℕ) where
   -- the answer r with the list `new` is what the two clauses say
-  abbrev pub Meets : Passed → List ℕ → Type 0
+  abbrev pub Meets : Result ⊤ Refusal → List ℕ → Type 0
   Meets r new = (r ≡ passed_sideways s (length src) components rows row first count (length old)) × (new ≡ written_sideways s src components rows row first count old)
 
   abbrev sizes : Bool
@@ -42,18 +42,18 @@ module _ (s : Stored) (src : List ℕ) (components rows row first count : ℕ) (
   abbrev area : Bool
   area = bad_area s.set.layout.lines (windows s.set.layout) (length src) (rows * components) (first * components) (count * components) (length old)
 
-  part_pixels : bad_pixels components row ≡ true → Meets (Refused BadSide) old
+  part_pixels : bad_pixels components row ≡ true → Meets (Err BadSide) old
   unfolding passed_sideways written_sideways
   part_pixels h = (rw h, rw h)
 
-  too_large : bad_pixels components row ≡ false → sizes ≡ true → Meets (Refused BadSide) old
+  too_large : bad_pixels components row ≡ false → sizes ≡ true → Meets (Err BadSide) old
   unfolding passed_sideways written_sideways passed_u16
   too_large h size = (rw (h, size), rw (h, size))
 
-  pub bad_size_fact : bad_pixels components row || sizes ≡ true → Meets (Refused BadSide) old
+  pub bad_size_fact : bad_pixels components row || sizes ≡ true → Meets (Err BadSide) old
   bad_size_fact h = go (bad_pixels components row) refl h
     where
-      go : (b : Bool) → bad_pixels components row ≡ b → b || sizes ≡ true → Meets (Refused BadSide) old
+      go : (b : Bool) → bad_pixels components row ≡ b → b || sizes ≡ true → Meets (Err BadSide) old
       go true e q = part_pixels e
       go false e q = too_large e q
 
@@ -73,11 +73,11 @@ module _ (s : Stored) (src : List ℕ) (components rows row first count : ℕ) (
         let wide = not_outside 1 32768 (rows * components) (or_right (bad_sides_value s.set.layout.lines (windows s.set.layout)) (outside 1 32768 (rows * components)) size_good) in
         (p.least, p.most, omega (arith, wide, le-mul_of_pos_right rows p.least))
 
-    pub bad_stored_fact : bad_stored s store32 ≡ true → Meets (Refused DoesNotFit) old
+    pub bad_stored_fact : bad_stored s store32 ≡ true → Meets (Err DoesNotFit) old
     unfolding passed_sideways written_sideways passed_u16
     bad_stored_fact stored = (rw (pixels, size_good, stored), rw (pixels, size_good, stored))
 
-    pub bad_area_fact : bad_stored s store32 ≡ false → area ≡ true → Meets (Refused DoesNotFit) old
+    pub bad_area_fact : bad_stored s store32 ≡ false → area ≡ true → Meets (Err DoesNotFit) old
     unfolding passed_sideways written_sideways passed_u16
     bad_area_fact stored rest = (rw (pixels, size_good, stored, rest), rw (pixels, size_good, stored, rest))
 
@@ -124,7 +124,7 @@ module _ (s : Stored) (src : List ℕ) (components rows row first count : ℕ) (
           ∙ rw (total_ext (weight s.set (pos 0) i) (weight s.set (pos 0) i) (sample s.set.layout (frame 0 src components) i (first * row + y * row + k)) (sample s.set.layout (turned 0 src components row) i ((first + y) * components + k)) (size s.set.layout i) (λ x h. refl)
           (λ x h. rw (mul-add-div_right some (first + y) k, mul-add-mod_self_right (first + y) components k, div-eq_of_lt l, mod-eq_of_lt l) (ap (λ (z : ℕ). get_or src z 0) (omega (arith, add-mul first y row)))))
 
-      pub done : (new : List ℕ) → new ≡ tab 0 (count * (windows s.set.layout * components)) (row_values src (first * row) components row s.set.layout.starts s.set.layout.sizes s.set.layout.window_size_value s.set.weights s.precision) → Meets Done new
+      pub done : (new : List ℕ) → new ≡ tab 0 (count * (windows s.set.layout * components)) (row_values src (first * row) components row s.set.layout.starts s.set.layout.sizes s.set.layout.window_size_value s.set.weights s.precision) → Meets (Ok tt) new
       unfolding passed_sideways written_sideways passed_u16
       done new e =
           let n = windows s.set.layout in

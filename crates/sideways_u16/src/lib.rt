@@ -13,7 +13,6 @@ use excesses::stored_fits32;
 use judge::{rows_fit, sizes_fit};
 use pixels_u16::fill_rows;
 use refusal::Refusal;
-use vertical::Passed;
 
 // A frame of pixels, row after row, and the rows of it that are asked for.
 #[derive(Clone, Copy)]
@@ -41,12 +40,12 @@ pub fn horiz_convolution_u16(
     window_size: u32,
     precision: u32,
     out: &mut [u16],
-) -> Passed
+) -> Result<(), Refusal>
     ensures answer { result ≡ passed_sideways (stored_of (set_of (layout_of (frame.row / frame.components) window_size starts.now sizes.now) weights.now) precision excesses.now) (length src.now) frame.components frame.rows frame.row frame.first frame.count (length out.old) }
     ensures written { out.new ≡ written_sideways (stored_of (set_of (layout_of (frame.row / frame.components) window_size starts.now sizes.now) weights.now) precision excesses.now) src.now frame.components frame.rows frame.row frame.first frame.count out.old }
 {
     if !sizes_fit(frame, starts.len()) {
-        return Passed::Refused(Refusal::BadSide);
+        return Err(Refusal::BadSide);
     }
     if !stored_fits32(
         frame.row / frame.components,
@@ -57,10 +56,10 @@ pub fn horiz_convolution_u16(
         sizes,
         excesses,
     ) {
-        return Passed::Refused(Refusal::DoesNotFit);
+        return Err(Refusal::DoesNotFit);
     }
     if !rows_fit(frame, src.len(), starts.len(), out.len()) {
-        return Passed::Refused(Refusal::DoesNotFit);
+        return Err(Refusal::DoesNotFit);
     }
     fill_rows(
         src,
@@ -75,5 +74,5 @@ pub fn horiz_convolution_u16(
         precision,
         out,
     );
-    Passed::Done
+    Ok(())
 }

@@ -1,10 +1,10 @@
 -- What the steps of `make` give is what `made_of` says, by the builder's answer and then by the normaliser's. Cited by the proofs of functions here and of `shared_store`.
 -- Assumes nothing.
+use Rattle.std.specs.Prelude.{Result, Ok, Err}
 use mathlib.Core.Path.{◌≡◌, refl, sym, ap, ◌∙◌}
 use mathlib.Core.List.{List, ◌++◌}
 use Prim.Native.Nat.{ℕ, ◌*◌, ◌≤◌}
 use native.Mathlib.Nat.{le_trans, le_of_eq}
-use native.Mathlib.Omega.{arith}
 use lib.Ieee.{Float}
 use lib.IntN.{ℤ}
 use lib.ListN.{length, take, drop}
@@ -16,17 +16,13 @@ use Rattle.windows.specs.Set.{layout_of, Set, set_of, windows}
 use Rattle.windows.specs.Store.{store32}
 use Rattle.plans.specs.declared.Request.{Request}
 use Rattle.plans.specs.declared.Plan.{Plan}
-use Rattle.coefficients.specs.declared.Built.{Built}
-use Rattle.coefficients.specs.declared.Built.TheVariants.{Done, Blank, Refused}
 use Rattle.coefficients.specs.Request.{built_of}
-use Rattle.normalizer.specs.declared.Normalized.{Normalized}
-use Rattle.normalizer.specs.declared.Normalized.TheVariants.{Done as Normal, Refused as NormalRefused}
+use Rattle.refusal.specs.declared.Refusal.{Refusal}
 use Rattle.normalizer.specs.Answer.{normalized_of, written_by, written_of, excesses_by, excesses_of}
-use Rattle.store_sets.specs.declared.Outcome.TheVariants.{New, Old}
-use Rattle.made_sets.specs.Made.{planned_set, stored_at, Made, none, after_normal, made_of}
-use Rattle.store_sets.specs.Inner.{outcome, slots_after, excesses_after, staged, told}
+use Rattle.made_sets.specs.Made.{planned_set, stored_at, Made, after_normal, made_of}
+use Rattle.store_sets.specs.Inner.{outcome, slots_after, excesses_after, told}
 use Rattle.made_sets.proofs.Planned.{planned, plan, room}
-use Rattle.made_sets.proofs.Choice.{not_built, made_done}
+use Rattle.made_sets.proofs.Choice.{made_done}
 use Rattle.made_sets.proofs.Made.{planned_windows}
 
 -- a beginning that is written is a text laid at 0
@@ -41,48 +37,33 @@ pub lists_same : {l l1 : ℕ} {ds ds1 : List Float} {fs fs1 cs cs1 : List ℕ} (
 lists_same w n m e1 e2 e3 e4 = rw (e1, e2, e3, e4)
 
 module _ (q : Request) (n : ℕ) where
-  pub made_old : (y x : Built) → built_of q n 8192 8192 ≡ y → staged y ≡ Old x → made_of q n ≡ none x
-  made_old (Done w) x e h = let z : ◌≡◌ {A = ℕ} 0 1 = cc in absurd (omega arith)
-  made_old (Blank line) x e h =
-      let same : Blank line ≡ x = cc in
-      not_built q n (Blank line) e (λ w g. let z : ◌≡◌ {A = ℕ} 0 1 = cc in absurd (omega arith)) ∙ ap none same
-  made_old (Refused refusal) x e h =
-      let same : Refused refusal ≡ x = cc in
-      not_built q n (Refused refusal) e (λ w g. let z : ◌≡◌ {A = ℕ} 0 1 = cc in absurd (omega arith)) ∙ ap none same
-
-  -- one that was not
-  pub built_new : (y : Built) (w z : ℕ) → built_of q n 8192 8192 ≡ y → staged y ≡ New w z → built_of q n 8192 8192 ≡ Done w
-  built_new (Done v) w z e h = let same : v ≡ w = cc in e ∙ ap Done same
-  built_new (Blank line) w z e h = let z : ◌≡◌ {A = ℕ} 0 1 = cc in absurd (omega arith)
-  built_new (Refused refusal) w z e h = let z : ◌≡◌ {A = ℕ} 0 1 = cc in absurd (omega arith)
-
-  module _ (w : ℕ) (done : built_of q n 8192 8192 ≡ Done w) where
+  module _ (w : ℕ) (done : built_of q n 8192 8192 ≡ Ok w) where
     abbrev p : Plan
     p = plan q n w done
 
-    abbrev answer : Normalized
+    abbrev answer : Result ℕ Refusal
     answer = normalized_of store32 (planned_set p) n 8192
 
     window_is : (planned_set p).layout.window_size_value ≡ w
     unfolding planned_set
     window_is = sym (planned q n w done).wide
 
-    told_is : (y : Normalized) → told w y ≡ outcome (after_normal (planned_set p) y)
+    told_is : (y : Result ℕ Refusal) → told w y ≡ outcome (after_normal (planned_set p) y)
     unfolding outcome after_normal stored_at
-    told_is (Normal precision) = ap (λ (v : ℕ). New v precision) (sym window_is)
-    told_is (NormalRefused refusal) = refl
+    told_is (Ok precision) = ap (λ (v : ℕ). Ok (v, precision)) (sym window_is)
+    told_is (Err refusal) = refl
 
-    slots_are : (y : Normalized) (part : List ℤ) → n ≡ length part → written_by store32 (planned_set p) y part ≡ slots_after (after_normal (planned_set p) y) part
+    slots_are : (y : Result ℕ Refusal) (part : List ℤ) → n ≡ length part → written_by store32 (planned_set p) y part ≡ slots_after (after_normal (planned_set p) y) part
     unfolding written_by slots_after after_normal stored_at
-    slots_are (NormalRefused refusal) part e = refl
-    slots_are (Normal precision) part e =
+    slots_are (Err refusal) part e = refl
+    slots_are (Ok precision) part e =
         let few : windows (planned_set p).layout * (planned_set p).layout.window_size_value ≡ q.output * w = rw (planned_windows p, (room q n w done).windows_are, window_is) in
         front_laid _ _ part (le_trans (le_of_eq few) (le_trans (room q n w done).slots_there (le_of_eq e)))
 
-    excesses_are : (y : Normalized) (old : List ℤ) → length old ≡ 8192 → excesses_by store32 (planned_set p) y old ≡ excesses_after (after_normal (planned_set p) y) old
+    excesses_are : (y : Result ℕ Refusal) (old : List ℤ) → length old ≡ 8192 → excesses_by store32 (planned_set p) y old ≡ excesses_after (after_normal (planned_set p) y) old
     unfolding excesses_by excesses_after after_normal stored_at
-    excesses_are (NormalRefused refusal) old e = refl
-    excesses_are (Normal precision) old e =
+    excesses_are (Err refusal) old e = refl
+    excesses_are (Ok precision) old e =
         front_laid _ _ old (le_trans (le_of_eq (planned_windows p ∙ (room q n w done).windows_are)) (le_trans (room q n w done).few (le_of_eq (sym e))))
 
     -- the outcome and the two parts, by the normaliser's answer over the lists
@@ -90,19 +71,19 @@ module _ (q : Request) (n : ℕ) where
       answer_is : normalized_of store32 set (length part) (length old) ≡ answer
       answer_is = rw (same, sym long, all)
 
-      pub make_answer : (y : Normalized) → y ≡ normalized_of store32 set (length part) (length old) → told w y ≡ outcome (made_of q n)
-      make_answer y e = told_is y ∙ ap (λ (z : Normalized). outcome (after_normal (planned_set p) z)) (e ∙ answer_is) ∙ ap outcome (sym (made_done q n w done))
+      pub make_answer : (y : Result ℕ Refusal) → y ≡ normalized_of store32 set (length part) (length old) → told w y ≡ outcome (made_of q n)
+      make_answer y e = told_is y ∙ ap (λ (z : Result ℕ Refusal). outcome (after_normal (planned_set p) z)) (e ∙ answer_is) ∙ ap outcome (sym (made_done q n w done))
 
       pub make_slots : written_of store32 set (length old) part ≡ slots_after (made_of q n) part
       unfolding written_of
       make_slots =
-          ap (λ (z : Normalized). written_by store32 set z part) answer_is
+          ap (λ (z : Result ℕ Refusal). written_by store32 set z part) answer_is
           ∙ ap (λ (s : Set Float). written_by store32 s answer part) same
           ∙ slots_are answer part long ∙ ap (λ (m : Made). slots_after m part) (sym (made_done q n w done))
 
       pub make_excesses : excesses_of store32 set (length part) old ≡ excesses_after (made_of q n) old
       unfolding excesses_of
       make_excesses =
-          ap (λ (z : Normalized). excesses_by store32 set z old) answer_is
+          ap (λ (z : Result ℕ Refusal). excesses_by store32 set z old) answer_is
           ∙ ap (λ (s : Set Float). excesses_by store32 s answer old) same
           ∙ excesses_are answer old all ∙ ap (λ (m : Made). excesses_after m old) (sym (made_done q n w done))

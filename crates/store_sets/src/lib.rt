@@ -2,7 +2,6 @@
 // two lists that the set is to stand in; refused, those two are as they were. A worker of `shared_store`.
 #![tactic(auto)]
 
-mod answers;
 mod steps;
 
 ghost use Rattle.std.specs.Prelude.{◌≡◌, ◌≤◌, length};
@@ -11,20 +10,12 @@ ghost use Rattle.made_sets.specs.Made.{made_of};
 ghost use Rattle.made_sets.specs.Lent.{lent_by};
 ghost use Rattle.store_sets.specs.Inner.{outcome, slots_after, excesses_after};
 
-use answers::told;
-use coefficients::Built;
+use coefficients::NotBuilt;
 use plans::Request;
 pub use steps::side_of;
 use steps::{build_in, normal};
 
-// A new set's window size and precision, or the answer that refuses it.
-#[derive(Drop)]
-pub enum Outcome {
-    New(u32, u32),
-    Old(Built),
-}
-
-// The set of a request at the beginning of `part` and `excesses`. The builder works in `doubles`, of which it gets as many as `part` is long, and in 8,192 places of
+// The window size and the precision of a request's set, which stands at the beginning of `part` and `excesses`. The builder works in `doubles`, of which it gets as many as `part` is long, and in 8,192 places of
 // `firsts` and `counts`, where the set's starts and sizes are left.
 pub fn make(
     request: Request,
@@ -33,7 +24,7 @@ pub fn make(
     doubles: &mut [f64],
     firsts: &mut [u32],
     counts: &mut [u32],
-) -> Outcome
+) -> Result<(u32, u32), NotBuilt>
     requires fact_1 { length excesses.old ≡ 8192 }
     requires fact_2 { length part.old ≤ length doubles.old }
     requires fact_3 { 8192 ≤ length firsts.old }
@@ -45,21 +36,17 @@ pub fn make(
     ensures written4 { firsts.new ≡ lent_by 8192 (starts_of request (length part.old) 8192 8192) firsts.old }
     ensures written5 { counts.new ≡ lent_by 8192 (sizes_of request (length part.old) 8192 8192) counts.old }
 {
-    let stage = build_in(request, part.len(), doubles, firsts, counts);
-    let Outcome::New(w, _) = stage else {
-        return stage;
-    };
-    told(
-        w,
-        normal(
-            side_of(request),
-            w,
-            request.output,
-            part,
-            excesses,
-            doubles,
-            firsts,
-            counts,
-        ),
-    )
+    let built = build_in(request, part.len(), doubles, firsts, counts);
+    let window = built?;
+    let precision = normal(
+        side_of(request),
+        window,
+        request.output,
+        part,
+        excesses,
+        doubles,
+        firsts,
+        counts,
+    )?;
+    Ok((window, precision))
 }

@@ -5,12 +5,11 @@ ghost use Rattle.windows.specs.Store.{store32};
 ghost use Rattle.coefficients.specs.Request.{built_of, weights_of, starts_of, sizes_of};
 ghost use Rattle.normalizer.specs.Answer.{normalized_of, written_of, excesses_of};
 ghost use Rattle.made_sets.specs.Lent.{side_of, lent_by};
-ghost use Rattle.store_sets.specs.Inner.{staged};
 
-use crate::Outcome;
-use coefficients::build;
-use normalizer::{Normalized, normalize32};
+use coefficients::{NotBuilt, build};
+use normalizer::normalize32;
 use plans::{Axis, Request};
+use refusal::Refusal;
 
 // The side along the axis.
 pub fn side_of(request: Request) -> u32
@@ -30,22 +29,21 @@ pub(crate) fn build_in(
     doubles: &mut [f64],
     firsts: &mut [u32],
     counts: &mut [u32],
-) -> Outcome
+) -> Result<u32, NotBuilt>
     requires fact_1 { room ≤ length doubles.old }
     requires fact_2 { 8192 ≤ length firsts.old }
     requires fact_3 { 8192 ≤ length counts.old }
-    ensures answer { result ≡ staged (built_of request room 8192 8192) }
+    ensures answer { result ≡ built_of request room 8192 8192 }
     ensures written { doubles.new ≡ lent_by room (weights_of request room 8192 8192) doubles.old }
     ensures written2 { firsts.new ≡ lent_by 8192 (starts_of request room 8192 8192) firsts.old }
     ensures written3 { counts.new ≡ lent_by 8192 (sizes_of request room 8192 8192) counts.old }
 {
-    let answer = build(
+    build(
         request,
         &mut doubles[0..room],
         &mut firsts[0..8192],
         &mut counts[0..8192],
-    );
-    crate::answers::staged(answer)
+    )
 }
 
 // The beginnings of three lists as a set in the 32-bit store: n windows of size w.
@@ -58,7 +56,7 @@ pub(crate) fn normal(
     doubles: &[f64],
     firsts: &[u32],
     counts: &[u32],
-) -> Normalized
+) -> Result<u32, Refusal>
     requires fact_1 { n * w ≤ length doubles.now }
     requires fact_2 { n ≤ length firsts.now }
     requires fact_3 { n ≤ length counts.now }

@@ -1,5 +1,6 @@
 -- Document 02's example, computed: row 12 of document 01's table at samples 1 and 0 has the story of the paper, byte by byte; row 11's two clips, and where a place ends.
 -- Cited by nothing: it shows that the definition is the paper's. Assumes nothing.
+use Rattle.std.specs.Prelude.{Ok, Err}
 use mathlib.Core.Path.{◌≡◌, refl}
 use mathlib.Core.List.{List, [], ◌∷◌, ◌++◌}
 use Prim.Native.Nat.{ℕ}
@@ -14,7 +15,6 @@ use Rattle.vertical.specs.Frame.{frame}
 use Rattle.refusal.specs.declared.Refusal.TheVariants.{DoesNotFit, NoRoom}
 use Rattle.story_text.specs.Keys.{word_low, word_high, word_none}
 use Rattle.story_text.specs.Text.{part_text, camera_text, lines_text, clip_word, clip_text, end_text, window_text}
-use Rattle.story.specs.declared.Told.TheVariants.{Written, Refused}
 use Rattle.story.specs.Answer.{by_case, text_of, answer_of}
 
 -- the paper's lines
@@ -34,10 +34,10 @@ example = refl
 
 -- it has 69 bytes; a byte less of room is refused, and so are the second display line and the second column
 pub example_answers :
-    (answer_of (set4 even 2) (1 ∷ 0 ∷ []) 1 0 0 69 ≡ Written 69)
-    × (answer_of (set4 even 2) (1 ∷ 0 ∷ []) 1 0 0 68 ≡ Refused NoRoom)
-    × (answer_of (set4 even 2) (1 ∷ 0 ∷ []) 1 1 0 69 ≡ Refused DoesNotFit)
-    × (answer_of (set4 even 2) (1 ∷ 0 ∷ []) 1 0 1 69 ≡ Refused DoesNotFit)
+    (answer_of (set4 even 2) (1 ∷ 0 ∷ []) 1 0 0 69 ≡ Ok 69)
+    × (answer_of (set4 even 2) (1 ∷ 0 ∷ []) 1 0 0 68 ≡ Err NoRoom)
+    × (answer_of (set4 even 2) (1 ∷ 0 ∷ []) 1 1 0 69 ≡ Err DoesNotFit)
+    × (answer_of (set4 even 2) (1 ∷ 0 ∷ []) 1 0 1 69 ≡ Err DoesNotFit)
 unfolding by_case window_text lines_text end_text camera_text part_text number_text clip_text clip_word signed field_text line_text decimal digit_count_value sum excess shifted clipped
 example_answers = (refl, refl, refl, refl)
 

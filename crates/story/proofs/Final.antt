@@ -1,5 +1,6 @@
 -- For the customer: the final number of a story is the pass's own, for any range of columns that has the column. Where a story is told, the pass over such a range is done.
 -- FinalTold.antt says it of the story's last line, and of the whole row. Cited by FinalTold.antt and the promises. Assumes nothing.
+use Rattle.std.specs.Prelude.{Result, Ok, Err}
 use mathlib.Core.Path.{◌≡◌, sym, ap, ◌∙◌}
 use mathlib.Core.Bool.{Bool, true, false}
 use mathlib.Core.List.{List}
@@ -16,23 +17,20 @@ use Rattle.refusal.specs.declared.Refusal.{Refusal}
 use Rattle.windows.specs.Set.{Stored, windows}
 use Rattle.windows.specs.Store.{store32}
 use Rattle.windows.specs.Fit.{bad_stored}
-use Rattle.vertical.specs.declared.Passed.TheVariants.{Done}
 use Rattle.vertical.specs.Frame.{frame, bad_size, bad_frame}
 use Rattle.vertical.specs.U16.{value_at, passed_u16, written_u16}
-use Rattle.story.specs.declared.Told.{Told}
-use Rattle.story.specs.declared.Told.TheVariants.{Written, Refused}
 use Rattle.story.specs.Answer.{bad_place, by_case, answer_of}
 use Rattle.story.proofs.Ways.{line_there}
 
 -- a refusal is not a story
-abbrev written : Told → Bool
-written (Written n) = true
-written (Refused r) = false
+abbrev written : Result ℕ Refusal → Bool
+written (Ok n) = true
+written (Err r) = false
 
-refused : {r : Refusal} {n : ℕ} → Refused r ≡ Written n → ⊥
+refused : {r : Refusal} {n : ℕ} → Err r ≡ Ok n → ⊥
 refused h = never (sym (ap written h))
 
-module _ (s : Stored) (src : List ℕ) (row i j room : ℕ) {n : ℕ} (told : answer_of s src row i j room ≡ Written n) where
+module _ (s : Stored) (src : List ℕ) (row i j room : ℕ) {n : ℕ} (told : answer_of s src row i j room ≡ Ok n) where
   -- each test failed
   pub record Passes : Type 0 where
     pub size : bad_size s.set.layout.lines (windows s.set.layout) row ≡ false
@@ -51,7 +49,7 @@ module _ (s : Stored) (src : List ℕ) (row i j room : ℕ) {n : ℕ} (told : an
 
   -- a range of columns that has the column
   module _ (first count : ℕ) (list : List ℕ) (from : first ≤ j) (to : j < first + count) (fit : first + count ≤ row) (rooms : length list ≡ windows s.set.layout * count) where
-    pub pass_done : passed_u16 s (length src) row first count (length list) ≡ Done
+    pub pass_done : passed_u16 s (length src) row first count (length list) ≡ Ok tt
     unfolding passed_u16
     pass_done =
         let t = passes in

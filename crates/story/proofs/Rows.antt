@@ -1,5 +1,6 @@
 -- For the customer: each of No. 1, 10 and 11 is given by `story` exactly when its test holds and none before it does, and No. 0 exactly when none holds; so for every
 -- input one row applies and no other. Cited by docs/CONTRACTS.md. Assumes nothing.
+use Rattle.std.specs.Prelude.{Ok, Err}
 use mathlib.Core.Path.{◌≡◌, refl}
 use mathlib.Core.Bool.{Bool, true, false, cond, ◌||◌}
 use mathlib.Core.List.{List}
@@ -13,11 +14,10 @@ use Rattle.windows.specs.Store.{store32}
 use Rattle.windows.specs.Fit.{bad_stored}
 use Rattle.sheet.specs.Answer.{no_room}
 use Rattle.vertical.specs.Frame.{bad_size, bad_frame}
-use Rattle.story.specs.declared.Told.TheVariants.{Written, Refused}
 use Rattle.story.specs.Answer.{bad_place, by_case, text_of, answer_of, number_of}
 use Rattle.story.proofs.Tests.{rows}
 
-numbered : (a b c d e : Bool) (n : ℕ) → number_of (cond a (Refused BadSide) (cond b (Refused DoesNotFit) (cond c (Refused DoesNotFit) (cond d (Refused DoesNotFit) (cond e (Refused NoRoom) (Written n)))))) ≡ cond a 1 (cond ((b || c) || d) 10 (cond e 11 0))
+numbered : (a b c d e : Bool) (n : ℕ) → number_of (cond a (Err BadSide) (cond b (Err DoesNotFit) (cond c (Err DoesNotFit) (cond d (Err DoesNotFit) (cond e (Err NoRoom) (Ok n)))))) ≡ cond a 1 (cond ((b || c) || d) 10 (cond e 11 0))
 numbered true b c d e n = refl
 numbered false true c d e n = refl
 numbered false false true d e n = refl

@@ -1,18 +1,8 @@
--- The contract of `story` decides its answer and every byte of the lent list, which is the twelfth parameter; those of `number` and `length` their answers. Assumes nothing.
+-- The contract of `story` decides its answer and every byte of the lent list, which is the twelfth parameter. Assumes nothing.
 use mathlib.Core.Path.{◌≡◌, ◌∙◌, sym}
-use Rattle.lists.proofs.Sure.{Decides, DecidesResult}
+use Rattle.lists.proofs.Sure.{Decides}
 use Rattle.story.proofs.story.Kinds as story
 use Rattle.story.proofs.story.Reads as story-reads
-use Rattle.story.proofs.Told.number.Kinds as number
-use Rattle.story.proofs.Told.number.Reads as number-reads
-use Rattle.story.proofs.Told.length.Kinds as length
-use Rattle.story.proofs.Told.length.Reads as length-reads
 
 pub story_decides : Decides story.ps story.r story-reads.Post (λ κs s t. s.1.1.1.1.1.1.1.1.1.1.1.0.now ≡ t.1.1.1.1.1.1.1.1.1.1.1.0.now)
 story_decides κs a x y s t p q = (p.0 ∙ sym q.0, p.1 ∙ sym q.1)
-
-pub number_decides : DecidesResult number.ps number.r number-reads.Post
-number_decides κs a x y s t p q = p ∙ sym q
-
-pub length_decides : DecidesResult length.ps length.r length-reads.Post
-length_decides κs a x y s t p q = p ∙ sym q

@@ -1,18 +1,17 @@
 -- The answer of `story`: No. 1, 10 and 11 in the order of judging, and what the lent list holds afterwards. Cited by its contract and by the promises. Definitions only.
 -- Assumes nothing.
-use Rattle.std.specs.Prelude.{Bool, cond, not, ◌||◌, List, ℕ, ltb, length}
+use Rattle.std.specs.Prelude.{Bool, cond, not, ◌||◌, List, ℕ, ltb, length, Result, Ok, Err}
+use Rattle.std.specs.Result.{result_unwrap_or}
 use Rattle.text.specs.Text.{over}
 use Rattle.refusal.specs.declared.Refusal.{Refusal}
 use Rattle.refusal.specs.declared.Refusal.TheVariants.{BadSide, DoesNotFit, NoRoom}
-use Rattle.refusal.specs.Refusal.{number_of as refusalNumber}
+use Rattle.refusal.specs.Refusal.{number_in}
 use Rattle.windows.specs.Set.{Stored, windows}
 use Rattle.windows.specs.Store.{store32}
 use Rattle.windows.specs.Fit.{bad_stored}
 use Rattle.sheet.specs.Answer.{no_room}
 use Rattle.vertical.specs.Frame.{frame, bad_size, bad_frame}
 use Rattle.story_text.specs.Text.{story_text_value}
-use Rattle.story.specs.declared.Told.{Told}
-use Rattle.story.specs.declared.Told.TheVariants.{Written, Refused}
 
 -- No. 10: a place that does not exist, display line i of so many windows or column j of a row
 abbrev pub bad_place : ℕ → ℕ → ℕ → ℕ → Bool
@@ -34,18 +33,16 @@ module _ (s : Stored) (src : List ℕ) (row i j : ℕ) where
   text_of = story_text_value s (frame 0 src row) i j
 
   -- the answer, where there is room for so many bytes: how many were written, or the refusal
-  abbrev pub answer_of : ℕ → Told
-  answer_of room = by_case s (length src) row i j room (length text_of) Refused (Written (length text_of))
+  abbrev pub answer_of : ℕ → Result ℕ Refusal
+  answer_of room = by_case s (length src) row i j room (length text_of) Err (Ok (length text_of))
 
   -- the lent list afterwards: the text over its beginning, unchanged where refused
   abbrev pub written_of : List ℕ → List ℕ
   written_of old = by_case s (length src) row i j (length old) (length text_of) (λ refusal. old) (over text_of old)
 
 -- 01's number of an answer, and the length beside it
-abbrev pub number_of : Told → ℕ
-number_of (Written n) = 0
-number_of (Refused refusal) = refusalNumber refusal
+abbrev pub number_of : Result ℕ Refusal → ℕ
+number_of = number_in
 
-abbrev pub length_of : Told → ℕ
-length_of (Written n) = n
-length_of (Refused refusal) = 0
+abbrev pub length_of : Result ℕ Refusal → ℕ
+length_of answer = result_unwrap_or answer 0

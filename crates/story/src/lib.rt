@@ -3,10 +3,9 @@
 // and counted all the same.
 #![tactic(auto)]
 
-mod answer;
 mod place;
 
-ghost use Rattle.std.specs.Prelude.{◌≡◌, cond, ◌≤◌, length};
+ghost use Rattle.std.specs.Prelude.{◌≡◌, cond, ◌≤◌, length, Ok, Err};
 ghost use Rattle.text.specs.Text.{over};
 ghost use Rattle.windows.specs.Set.{layout_of, set_of, stored_of};
 ghost use Rattle.excesses.specs.Slots.{slot_from};
@@ -14,7 +13,6 @@ ghost use Rattle.sheet.specs.Answer.{no_room};
 ghost use Rattle.story_text.specs.Text.{window_text};
 ghost use Rattle.story_text.specs.There.{sample_from, There};
 ghost use Rattle.refusal.specs.declared.Refusal.TheVariants.{NoRoom};
-ghost use Rattle.story.specs.declared.Told.TheVariants as told;
 ghost use Rattle.story.specs.Answer.{answer_of, written_of};
 
 use excesses::stored_fits32;
@@ -23,13 +21,6 @@ use refusal::Refusal;
 use story_ends::put_story;
 use vertical::{Frame, size_fits};
 use windows::{CameraLine, DisplayLine, fills};
-
-// The answer: how many bytes were written, or why none was.
-#[derive(Clone, Copy)]
-pub enum Told {
-    Written(u64),
-    Refused(Refusal),
-}
 
 // The story of a window that is there, or No. 11.
 fn tell(
@@ -42,19 +33,19 @@ fn tell(
     size: u32,
     p: u32,
     out: &mut [u8],
-) -> Told
+) -> Result<u64, Refusal>
     requires le_p { (1 ≤ p) × (p ≤ 45) }
     requires there { There (length weights.now) (length src.now) row column from start.0 size }
-    ensures answer { result ≡ cond (no_room (length out.old) (length (window_text p start.0 (slot_from weights.now from) (sample_from src.now row column start.0) size))) (told.Refused NoRoom) (told.Written (length (window_text p start.0 (slot_from weights.now from) (sample_from src.now row column start.0) size))) }
+    ensures answer { result ≡ cond (no_room (length out.old) (length (window_text p start.0 (slot_from weights.now from) (sample_from src.now row column start.0) size))) (Err NoRoom) (Ok (length (window_text p start.0 (slot_from weights.now from) (sample_from src.now row column start.0) size))) }
     ensures written { out.new ≡ cond (no_room (length out.old) (length (window_text p start.0 (slot_from weights.now from) (sample_from src.now row column start.0) size))) out.old (over (window_text p start.0 (slot_from weights.now from) (sample_from src.now row column start.0) size) out.old) }
 {
     let mut none = [0u8; 1];
     let n = put_story(src, row, column, weights, from, start, size, p, &mut none);
     if out.len() < n {
-        return Told::Refused(Refusal::NoRoom);
+        return Err(Refusal::NoRoom);
     }
     put_story(src, row, column, weights, from, start, size, p, out);
-    Told::Written(n as u64)
+    Ok(n as u64)
 }
 
 // The story of a display line at a column, in `out`, for any numbers and lists; refused with `out` unchanged.
@@ -71,7 +62,7 @@ pub fn story(
     line: DisplayLine,
     column: u32,
     out: &mut [u8],
-) -> Told
+) -> Result<u64, Refusal>
     ensures answer { result ≡ answer_of (stored_of (set_of (layout_of lines window_size starts.now sizes.now) weights.now) precision excesses.now) src.now row line.0 column (length out.old) }
     ensures written { out.new ≡ written_of (stored_of (set_of (layout_of lines window_size starts.now sizes.now) weights.now) precision excesses.now) src.now row line.0 column out.old }
 {
@@ -82,7 +73,7 @@ pub fn story(
         count: 1,
     };
     if !size_fits(frame, starts.len()) {
-        return Told::Refused(Refusal::BadSide);
+        return Err(Refusal::BadSide);
     }
     if !stored_fits32(
         lines,
@@ -93,13 +84,13 @@ pub fn story(
         sizes,
         excesses,
     ) {
-        return Told::Refused(Refusal::DoesNotFit);
+        return Err(Refusal::DoesNotFit);
     }
     if !fills(src.len(), lines as usize, row) {
-        return Told::Refused(Refusal::DoesNotFit);
+        return Err(Refusal::DoesNotFit);
     }
     if misses(starts.len(), row, line, column) {
-        return Told::Refused(Refusal::DoesNotFit);
+        return Err(Refusal::DoesNotFit);
     }
     let i = line.0 as usize;
     let from = i * window_size as usize;

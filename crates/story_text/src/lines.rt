@@ -49,12 +49,10 @@ pub fn put_lines(
     ensures written { out.new ≡ laid out.old at (lines_text start.0 (slot_from weights.now from) (sample_from src.now row column start.0) size) }
 {
     let mut p = at;
-    let mut k: u32 = 0;
-    while k < size {
+    for k in 0..size {
         let line = CameraLine(start.0 + k);
         let sample = sample_at(src, row, column, line);
         p = put_camera(line, weights[from + k as usize], sample, p, out);
-        k += 1;
     }
     p
 }

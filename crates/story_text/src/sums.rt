@@ -38,11 +38,9 @@ pub fn total(
     ensures answer { (result ≡ total_of (slot_from weights.now from) (sample_from src.now row column start.0) size) × (nat_abs result ≤ 2 ^ 60) }
 {
     let mut t: i64 = 0;
-    let mut k: u32 = 0;
-    while k < size {
+    for k in 0..size {
         let sample = sample_at(src, row, column, CameraLine(start.0 + k));
         t = step(t, weights[from + k as usize], sample);
-        k += 1;
     }
     t
 }

@@ -30,10 +30,8 @@ pub fn put(s: &[u8], at: usize, out: &mut [u8]) -> usize
     ensures written { out.new ≡ laid out.old at s.now }
 {
     let mut p = at;
-    let mut i: usize = 0;
-    while i < s.len() {
-        p = put_byte(s[i], p, out);
-        i += 1;
+    for b in s {
+        p = put_byte(*b, p, out);
     }
     p
 }

@@ -8,16 +8,14 @@ use crate::bytes::{put, put_byte};
 fn digit_count(n: u64) -> usize
     ensures answer { result ≡ digit_count_value n }
 {
-    let mut k: usize = 1;
     let mut m = n / 10;
-    while k < 20 {
+    for k in 1..20 {
         if m == 0 {
             return k;
         }
         m = m / 10;
-        k += 1;
     }
-    k
+    20
 }
 
 // The byte of n's digit at place p from the right.
@@ -25,10 +23,8 @@ fn digit_at(n: u64, p: usize) -> u8
     ensures answer { result ≡ 48 + n / 10 ^ p % 10 }
 {
     let mut m = n;
-    let mut k: usize = 0;
-    while k < p {
+    for _ in 0..p {
         m = m / 10;
-        k += 1;
     }
     (48 + m % 10) as u8
 }
@@ -40,10 +36,8 @@ pub fn put_number(n: u64, at: usize, out: &mut [u8]) -> usize
 {
     let k = digit_count(n);
     let mut p = at;
-    let mut i: usize = 0;
-    while i < k {
+    for i in 0..k {
         p = put_byte(digit_at(n, k - 1 - i), p, out);
-        i += 1;
     }
     p
 }

@@ -9,15 +9,13 @@ pub fn shared(word: &[u8], text: &[u8], at: usize) -> usize
     if text.len() <= at {
         return 0;
     }
-    let mut k: usize = 0;
-    while k < word.len() {
+    for k in 0..word.len() {
         if text.len() - at <= k {
             return k;
         }
         if text[at + k] != word[k] {
             return k;
         }
-        k += 1;
     }
-    k
+    word.len()
 }

@@ -1,4 +1,5 @@
 -- What the answer "done" says of a pass, in plain numbers. Cited by the passes, the column cut and the promises. Assumes nothing.
+use Rattle.std.specs.Prelude.{Result, Ok, Err, ⊤}
 use mathlib.Core.Path.{◌≡◌, sym, ap}
 use mathlib.Core.Bool.{Bool, true, false, not, ◌||◌}
 use mathlib.Core.List.{List}
@@ -16,27 +17,23 @@ use Rattle.windows.specs.declared.Store.{Store}
 use Rattle.windows.specs.Store.{store32, bad_precision}
 use Rattle.windows.specs.Fit.{bad_set, bad_excesses, bad_stored, Fits}
 use Rattle.windows.proofs.Fits.{fits}
-use Rattle.vertical.specs.declared.Passed.{Passed}
-use Rattle.vertical.specs.declared.Passed.TheVariants as passed
-use Rattle.vertical.specs.declared.PassedF32.{PassedF32}
-use Rattle.vertical.specs.declared.PassedF32.TheVariants as passed-f32
 use Rattle.vertical.specs.Frame.{bad_frame, bad_range, bad_area, bad_size, bad_shape}
 use Rattle.vertical.specs.U16.{passed_u16}
 use Rattle.vertical.specs.F32.{passed_f32, bad_weights, bad_samples}
 
 -- a refusal is not done
-abbrev done : Passed → Bool
-done passed.Done = true
-done (passed.Refused r) = false
+abbrev done : Result ⊤ Refusal → Bool
+done (Ok tt) = true
+done (Err r) = false
 
-pub refused : {r : Refusal} → passed.Refused r ≡ passed.Done → ⊥
+pub refused : {r : Refusal} → ◌≡◌ {A = Result ⊤ Refusal} (Err r) (Ok tt) → ⊥
 refused h = never (sym (ap done h))
 
-abbrev done_f32 : PassedF32 → Bool
-done_f32 (passed-f32.Done n) = true
-done_f32 (passed-f32.Refused r) = false
+abbrev done_f32 : Result ℕ Refusal → Bool
+done_f32 (Ok n) = true
+done_f32 (Err r) = false
 
-refused_f32 : {r : Refusal} {n : ℕ} → passed-f32.Refused r ≡ passed-f32.Done n → ⊥
+refused_f32 : {r : Refusal} {n : ℕ} → Err r ≡ Ok n → ⊥
 refused_f32 h = never (sym (ap done_f32 h))
 
 -- sides, set, frame and columns fit: neither pass refuses for these
@@ -100,7 +97,7 @@ module _ (store : Store) (s : Stored) where
   tests_shaped samples row first count room t = shaped_of s.set samples row first count room t.size (stored_set t.stored) t.area
 
 -- each test of the u16 pass failed
-pub tests_u16 : (s : Stored) (samples row first count room : ℕ) → passed_u16 s samples row first count room ≡ passed.Done → Tests store32 s samples row first count room
+pub tests_u16 : (s : Stored) (samples row first count room : ℕ) → passed_u16 s samples row first count room ≡ Ok tt → Tests store32 s samples row first count room
 unfolding passed_u16
 tests_u16 s samples row first count room h =
     let size = ladder (bad_size s.set.layout.lines (windows s.set.layout) row) refused h in
@@ -115,7 +112,7 @@ pub record TestsF32 (s : Set Float) (src : List Float) (row first count room : �
   pub weights : bad_weights s ≡ false
   pub samples : bad_samples s src row first count ≡ false
 
-pub tests_f32 : (s : Set Float) (src : List Float) (row first count room : ℕ) {n : ℕ} → passed_f32 s src row first count room ≡ passed-f32.Done n → TestsF32 s src row first count room
+pub tests_f32 : (s : Set Float) (src : List Float) (row first count room : ℕ) {n : ℕ} → passed_f32 s src row first count room ≡ Ok n → TestsF32 s src row first count room
 unfolding passed_f32
 tests_f32 s src row first count room h =
     let size = ladder (bad_size s.layout.lines (windows s.layout) row) refused_f32 h in

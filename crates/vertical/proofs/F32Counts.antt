@@ -1,14 +1,13 @@
 -- What the count beside a done f32 pass promises: it is that of the list as written, and the counts of ranges that make up the row add up to the whole frame's,
 -- however the row is cut. Cited by the promises. Assumes nothing.
+use Rattle.std.specs.Prelude.{Ok}
 use mathlib.Core.Path.{◌≡◌, refl, sym, ap, ◌∙◌}
 use mathlib.Core.List.{List, [], ◌∷◌}
 use Prim.Native.Nat.{ℕ, ◌+◌, ◌*◌, ◌≤◌}
-use native.Mathlib.Nat.{add_assoc, zero-add}
 use native.Mathlib.Omega.{arith}
 use lib.Ieee.{Float, nan}
 use lib.ListN.{length, replicate, length-replicate}
 use Rattle.windows.specs.Set.{Set, windows}
-use Rattle.vertical.specs.declared.PassedF32.TheVariants.{Done}
 use Rattle.vertical.specs.PassedF32.{infinite_in}
 use Rattle.vertical.specs.Frame.{frame, output}
 use Rattle.vertical.specs.F32.{value_f32, infinities, passed_f32, written_f32}
@@ -17,8 +16,8 @@ use Rattle.vertical.proofs.Answers.{tests_f32}
 use Rattle.vertical.proofs.Columns.{columns_cut_f32}
 use Rattle.vertical.proofs.F32Infinite.{no_column, range_cut}
 
-module _ (s : Set Float) (src : List Float) (row first count : ℕ) (old : List Float) {n : ℕ} (done : passed_f32 s src row first count (length old) ≡ Done n) where
-  answer_is : passed_f32 s src row first count (length old) ≡ Done (infinities (output (value_f32 s (frame nan src row)) (windows s.layout) first count))
+module _ (s : Set Float) (src : List Float) (row first count : ℕ) (old : List Float) {n : ℕ} (done : passed_f32 s src row first count (length old) ≡ Ok n) where
+  answer_is : passed_f32 s src row first count (length old) ≡ Ok (infinities (output (value_f32 s (frame nan src row)) (windows s.layout) first count))
   unfolding passed_f32
   answer_is = let t = tests_f32 s src row first count (length old) done in rw (t.size, t.shape, t.weights, t.samples) refl
 
@@ -30,7 +29,7 @@ module _ (s : Set Float) (src : List Float) (row first count : ℕ) (old : List 
   unfolding written_f32
   counted = rw done count_is
 
-module _ (s : Set Float) (src : List Float) (row : ℕ) (whole : List Float) {n : ℕ} (done : passed_f32 s src row 0 row (length whole) ≡ Done n) where
+module _ (s : Set Float) (src : List Float) (row : ℕ) (whole : List Float) {n : ℕ} (done : passed_f32 s src row 0 row (length whole) ≡ Ok n) where
   abbrev value : ℕ → ℕ → Float
   value = value_f32 s (frame nan src row)
 

@@ -1,5 +1,6 @@
 -- For the customer: each of No. 1 and 10, and of the f32 pass 12, is given exactly when its test holds and none before it does, and No. 0 exactly when none holds; so
 -- for every input one row applies and no other. Cited by docs/CONTRACTS.md. Assumes nothing.
+use Rattle.std.specs.Prelude.{Ok, Err}
 use mathlib.Core.Path.{◌≡◌, refl}
 use mathlib.Core.Bool.{Bool, true, false, cond, ◌||◌}
 use mathlib.Core.List.{List}
@@ -12,8 +13,6 @@ use Rattle.refusal.specs.declared.Refusal.TheVariants.{BadSide, DoesNotFit, Samp
 use Rattle.windows.specs.Set.{Set, Stored, windows}
 use Rattle.windows.specs.Store.{store32}
 use Rattle.windows.specs.Fit.{bad_stored}
-use Rattle.vertical.specs.declared.Passed.TheVariants.{Done, Refused}
-use Rattle.vertical.specs.declared.PassedF32.TheVariants.{Done as DoneF32, Refused as RefusedF32}
 use Rattle.vertical.specs.Passed.{number_of}
 use Rattle.vertical.specs.PassedF32.{number_of as numberOfF32}
 use Rattle.vertical.specs.Frame.{frame, output, bad_size, bad_area, bad_shape}
@@ -21,7 +20,7 @@ use Rattle.vertical.specs.U16.{passed_u16}
 use Rattle.vertical.specs.F32.{value_f32, infinities, bad_weights, bad_samples, passed_f32}
 use Rattle.vertical.proofs.Tests.{rows_u16, rows_f32}
 
-numbered : (a b c : Bool) → number_of (cond a (Refused BadSide) (cond b (Refused DoesNotFit) (cond c (Refused DoesNotFit) Done))) ≡ cond a 1 (cond (b || c) 10 0)
+numbered : (a b c : Bool) → number_of (cond a (Err BadSide) (cond b (Err DoesNotFit) (cond c (Err DoesNotFit) (Ok tt)))) ≡ cond a 1 (cond (b || c) 10 0)
 numbered true b c = refl
 numbered false true c = refl
 numbered false false true = refl
@@ -37,7 +36,7 @@ module _ (s : Stored) (samples row first count room : ℕ) where
   pub passed_u16_exactly : (n : ℕ) → Exactly (number_of (passed_u16 s samples row first count room) ≡ n) (Due n (rows_u16 s samples row first count room))
   passed_u16_exactly n = rw is (exactly_due n (rows_u16 s samples row first count room) refl)
 
-numbered_f32 : (a b c d : Bool) (n : ℕ) → numberOfF32 (cond a (RefusedF32 BadSide) (cond b (RefusedF32 DoesNotFit) (cond c (RefusedF32 SampleOutside) (cond d (RefusedF32 SampleOutside) (DoneF32 n))))) ≡ cond a 1 (cond b 10 (cond (c || d) 12 0))
+numbered_f32 : (a b c d : Bool) (n : ℕ) → numberOfF32 (cond a (Err BadSide) (cond b (Err DoesNotFit) (cond c (Err SampleOutside) (cond d (Err SampleOutside) (Ok n))))) ≡ cond a 1 (cond b 10 (cond (c || d) 12 0))
 numbered_f32 true b c d n = refl
 numbered_f32 false true c d n = refl
 numbered_f32 false false true d n = refl

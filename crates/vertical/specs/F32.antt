@@ -1,6 +1,6 @@
 -- The f32 pass: its refusals in the order of their numbers, the value of a window at a column, the output, and how many samples of it are infinite. Cited by the
 -- contract of `vertical_f32` and by the promises. Definitions only. Assumes nothing.
-use Rattle.std.specs.Prelude.{Bool, cond, not, ◌||◌, List, [], ◌∷◌, ℕ, ◌+◌, Float, pos, length}
+use Rattle.std.specs.Prelude.{Bool, cond, not, ◌||◌, List, [], ◌∷◌, ℕ, ◌+◌, Float, pos, length, Result, Ok, Err}
 use Rattle.std.specs.Float.{nan, binary64}
 use Rattle.std.specs.Float.Ieee.{add, mul, lt, of_bits, of_int}
 use Rattle.lists.specs.Tab.{any, turns}
@@ -8,8 +8,7 @@ use Rattle.refusal.specs.declared.Refusal.TheVariants.{BadSide, DoesNotFit, Samp
 use Rattle.floats.specs.Doubles.{is_finite}
 use Rattle.numbers.specs.Whole.{abs, narrow, is_infinite}
 use Rattle.windows.specs.Set.{Set, windows, size, weight, sample}
-use Rattle.vertical.specs.declared.PassedF32.{PassedF32}
-use Rattle.vertical.specs.declared.PassedF32.TheVariants.{Done, Refused}
+use Rattle.refusal.specs.declared.Refusal.{Refusal}
 use Rattle.vertical.specs.PassedF32.{after}
 use Rattle.vertical.specs.Frame.{frame, output, bad_size, bad_shape}
 
@@ -38,13 +37,13 @@ module _ (s : Set Float) (src : List Float) (row first count : ℕ) where
   bad_samples = any (windows s.layout) (λ i. any (size s.layout i) (bad_line i))
 
   -- the answer, where the output has room for so many samples; beside a done one, how many samples of the output are infinite
-  unfoldable pub passed_f32 : ℕ → PassedF32
+  unfoldable pub passed_f32 : ℕ → Result ℕ Refusal
   passed_f32 room =
-      cond (bad_size s.layout.lines (windows s.layout) row) (Refused BadSide)
-      (cond (bad_shape s.layout (length s.weights) (length src) row first count room) (Refused DoesNotFit)
-      (cond (bad_weights s) (Refused SampleOutside)
-      (cond bad_samples (Refused SampleOutside)
-      (Done (infinities (output (value_f32 s (frame nan src row)) (windows s.layout) first count))))))
+      cond (bad_size s.layout.lines (windows s.layout) row) (Err BadSide)
+      (cond (bad_shape s.layout (length s.weights) (length src) row first count room) (Err DoesNotFit)
+      (cond (bad_weights s) (Err SampleOutside)
+      (cond bad_samples (Err SampleOutside)
+      (Ok (infinities (output (value_f32 s (frame nan src row)) (windows s.layout) first count))))))
 
   unfoldable pub written_f32 : List Float → List Float
   written_f32 old = after (passed_f32 (length old)) (output (value_f32 s (frame nan src row)) (windows s.layout) first count) old

@@ -1,13 +1,12 @@
 -- The u16 pass: its refusals in the order of their numbers, the value of a window at a column, and the output. Cited by the contract of `vertical_u16` and by
 -- the promises. The value is over the largest sample M and a frame by line and column. Definitions only. Assumes nothing.
-use Rattle.std.specs.Prelude.{Bool, cond, List, ℕ, ◌*◌, ◌^◌, ltb, pos, length}
+use Rattle.std.specs.Prelude.{Bool, cond, List, ℕ, ◌*◌, ◌^◌, ltb, pos, length, Result, Ok, Err, ⊤}
 use Rattle.refusal.specs.declared.Refusal.TheVariants.{BadSide, DoesNotFit}
 use Rattle.integers.specs.Sums.{value}
 use Rattle.windows.specs.Set.{Stored, windows, size, weight, sample, distance_of}
 use Rattle.windows.specs.Store.{store32}
 use Rattle.windows.specs.Fit.{bad_stored}
-use Rattle.vertical.specs.declared.Passed.{Passed}
-use Rattle.vertical.specs.declared.Passed.TheVariants.{Done, Refused}
+use Rattle.refusal.specs.declared.Refusal.{Refusal}
 use Rattle.vertical.specs.Passed.{after}
 use Rattle.vertical.specs.Frame.{frame, output, bad_size, bad_area}
 
@@ -20,12 +19,12 @@ abbrev pub keeps_flat : ℕ → Stored → ℕ → Bool
 keeps_flat M s i = ltb (2 * M * distance_of s i) (2 ^ s.precision)
 
 -- the answer, for a frame of so many samples and an output with room for so many
-unfoldable pub passed_u16 : Stored → ℕ → ℕ → ℕ → ℕ → ℕ → Passed
+unfoldable pub passed_u16 : Stored → ℕ → ℕ → ℕ → ℕ → ℕ → Result ⊤ Refusal
 passed_u16 s samples row first count room =
-    cond (bad_size s.set.layout.lines (windows s.set.layout) row) (Refused BadSide)
-    (cond (bad_stored s store32) (Refused DoesNotFit)
-    (cond (bad_area s.set.layout.lines (windows s.set.layout) samples row first count room) (Refused DoesNotFit)
-    Done))
+    cond (bad_size s.set.layout.lines (windows s.set.layout) row) (Err BadSide)
+    (cond (bad_stored s store32) (Err DoesNotFit)
+    (cond (bad_area s.set.layout.lines (windows s.set.layout) samples row first count room) (Err DoesNotFit)
+    (Ok tt)))
 
 -- what `old` holds after it
 unfoldable pub written_u16 : Stored → List ℕ → ℕ → ℕ → ℕ → List ℕ → List ℕ

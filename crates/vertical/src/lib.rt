@@ -3,13 +3,10 @@
 // those columns of the whole frame.
 #![tactic(auto)]
 
-mod answer;
-
 ghost use Rattle.std.specs.Prelude.{◌≡◌, not};
 ghost use Rattle.windows.specs.Set.{layout_of};
 ghost use Rattle.vertical.specs.Frame.{bad_size, bad_range, bad_area, bad_shape};
 
-use refusal::Refusal;
 use windows::{fills, set_fits, sides_fit};
 
 // A frame of samples, line after line, and the columns of it that are asked for.
@@ -23,22 +20,6 @@ pub struct Frame {
     pub first: u32,
     // how many columns
     pub count: u32,
-}
-
-#[derive(Drop)]
-pub enum Passed {
-    // 0: every window's row is written
-    Done,
-    // why not; the output is unchanged
-    Refused(Refusal),
-}
-
-#[derive(Clone, Copy)]
-pub enum PassedF32 {
-    // 0: every window's row is written; how many samples of them are infinite
-    Done(u32),
-    // why not; the output is unchanged
-    Refused(Refusal),
 }
 
 // Whether both sides are 1 to 8,192 and a row has 1 to 32,768 samples, for any counts.

@@ -1,4 +1,5 @@
 -- From what the tests of `vert_convolution_f32` said to its two clauses. Cited by its proof. Assumes nothing.
+use Rattle.std.specs.Prelude.{Result, Ok, Err}
 use mathlib.Core.Path.{◌≡◌, refl, sym, ap, ◌∙◌}
 use mathlib.Core.Bool.{true, false}
 use mathlib.Core.List.{List}
@@ -11,8 +12,7 @@ use Rattle.refusal.specs.declared.Refusal.TheVariants.{BadSide, DoesNotFit, Samp
 use Rattle.floats.specs.Within.{AtMost}
 use Rattle.numbers.specs.Whole.{is_infinite}
 use Rattle.windows.specs.Set.{Set, windows}
-use Rattle.vertical.specs.declared.PassedF32.{PassedF32}
-use Rattle.vertical.specs.declared.PassedF32.TheVariants.{Done, Refused}
+use Rattle.refusal.specs.declared.Refusal.{Refusal}
 use Rattle.vertical.specs.Frame.{frame, output, bad_size, bad_shape}
 use Rattle.vertical.specs.F32.{value_f32, infinities, bad_weights, bad_samples, passed_f32, written_f32}
 use Rattle.vertical.proofs.Answers.{shaped}
@@ -38,30 +38,30 @@ all_finite value n count new long each small k h =
 
 module _ (s : Set Float) (src : List Float) (row first count : ℕ) (old : List Float) where
   -- the answer r with the list `new` is what the two clauses say
-  abbrev pub Meets : PassedF32 → List Float → Type 0
+  abbrev pub Meets : Result ℕ Refusal → List Float → Type 0
   Meets r new = (r ≡ passed_f32 s src row first count (length old)) × (new ≡ written_f32 s src row first count old)
 
-  pub bad_size_fact : bad_size s.layout.lines (windows s.layout) row ≡ true → Meets (Refused BadSide) old
+  pub bad_size_fact : bad_size s.layout.lines (windows s.layout) row ≡ true → Meets (Err BadSide) old
   unfolding passed_f32 written_f32
   bad_size_fact size = (rw size, rw size)
 
-  pub bad_shape_fact : bad_size s.layout.lines (windows s.layout) row ≡ false → bad_shape s.layout (length s.weights) (length src) row first count (length old) ≡ true → Meets (Refused DoesNotFit) old
+  pub bad_shape_fact : bad_size s.layout.lines (windows s.layout) row ≡ false → bad_shape s.layout (length s.weights) (length src) row first count (length old) ≡ true → Meets (Err DoesNotFit) old
   unfolding passed_f32 written_f32
   bad_shape_fact size shape = (rw (size, shape), rw (size, shape))
 
   module _ (size : bad_size s.layout.lines (windows s.layout) row ≡ false) (shape : bad_shape s.layout (length s.weights) (length src) row first count (length old) ≡ false) where
-    pub bad_weights_fact : bad_weights s ≡ true → Meets (Refused SampleOutside) old
+    pub bad_weights_fact : bad_weights s ≡ true → Meets (Err SampleOutside) old
     unfolding passed_f32 written_f32
     bad_weights_fact weights = (rw (size, shape, weights), rw (size, shape, weights))
 
-    pub bad_samples_fact : bad_weights s ≡ false → bad_samples s src row first count ≡ true → Meets (Refused SampleOutside) old
+    pub bad_samples_fact : bad_weights s ≡ false → bad_samples s src row first count ≡ true → Meets (Err SampleOutside) old
     unfolding passed_f32 written_f32
     bad_samples_fact weights samples = (rw (size, shape, weights, samples), rw (size, shape, weights, samples))
 
-    pub done : bad_weights s ≡ false → bad_samples s src row first count ≡ false → (new : List Float) → length new ≡ length old → ((i : ℕ) → i < windows s.layout → (j : ℕ) → j < count → get_or new (i * count + j) nan ≡ window_value src row first s.layout.starts s.layout.sizes s.layout.window_size_value s.weights i j) → Meets (Done (infinities new)) new
+    pub done : bad_weights s ≡ false → bad_samples s src row first count ≡ false → (new : List Float) → length new ≡ length old → ((i : ℕ) → i < windows s.layout → (j : ℕ) → j < count → get_or new (i * count + j) nan ≡ window_value src row first s.layout.starts s.layout.sizes s.layout.window_size_value s.weights i j) → Meets (Ok (infinities new)) new
     unfolding passed_f32 written_f32
     done weights samples new long each =
         let rooms = (shaped s (length src) row first count (length old) size shape).rooms in
         let is : new ≡ output (value_f32 s (frame nan src row)) (windows s.layout) first count =
         output_is nan (value_f32 s (frame nan src row)) (windows s.layout) first count new (long ∙ rooms) (λ i l j k. each i l j k ∙ value_is s src row first i j) in
-        (rw (size, shape, weights, samples) (ap (λ (l : List Float). Done (infinities l)) is), rw (size, shape, weights, samples) is)
+        (rw (size, shape, weights, samples) (ap (λ (l : List Float). Ok (infinities l)) is), rw (size, shape, weights, samples) is)

@@ -11,7 +11,7 @@ ghost use Rattle.vertical.specs.F32.{passed_f32, written_f32};
 use finite_f32::{counted, samples_fit, weights_fit};
 use refusal::Refusal;
 use rows::rows;
-use vertical::{Frame, PassedF32, shape_fits, size_fits};
+use vertical::{Frame, shape_fits, size_fits};
 
 // The value of every window at every column of the range, in `out`, and how many of them are infinite; refused with `out` unchanged exactly where document 01 says so.
 pub fn vert_convolution_f32(
@@ -22,12 +22,12 @@ pub fn vert_convolution_f32(
     sizes: &[u32],
     window_size: u32,
     out: &mut [f32],
-) -> PassedF32
+) -> Result<u32, Refusal>
     ensures answer { result ≡ passed_f32 (set_of (layout_of frame.lines window_size starts.now sizes.now) weights.now) src.now frame.row frame.first frame.count (length out.old) }
     ensures written { out.new ≡ written_f32 (set_of (layout_of frame.lines window_size starts.now sizes.now) weights.now) src.now frame.row frame.first frame.count out.old }
 {
     if !size_fits(frame, starts.len()) {
-        return PassedF32::Refused(Refusal::BadSide);
+        return Err(Refusal::BadSide);
     }
     if !shape_fits(
         frame,
@@ -38,10 +38,10 @@ pub fn vert_convolution_f32(
         sizes,
         out.len(),
     ) {
-        return PassedF32::Refused(Refusal::DoesNotFit);
+        return Err(Refusal::DoesNotFit);
     }
     if !weights_fit(weights, starts, sizes, window_size as usize) {
-        return PassedF32::Refused(Refusal::SampleOutside);
+        return Err(Refusal::SampleOutside);
     }
     if !samples_fit(
         src,
@@ -51,7 +51,7 @@ pub fn vert_convolution_f32(
         starts,
         sizes,
     ) {
-        return PassedF32::Refused(Refusal::SampleOutside);
+        return Err(Refusal::SampleOutside);
     }
     let finite = rows(
         src,
@@ -64,5 +64,5 @@ pub fn vert_convolution_f32(
         window_size as usize,
         out,
     );
-    PassedF32::Done(counted(finite, out))
+    Ok(counted(finite, out))
 }

@@ -9,12 +9,6 @@ ghost use Rattle.finite_f32.specs.Scan.{Zeros, Flags, SmallSamples, SmallWeights
 use finite_f32::{all_four, is_zero, rest};
 use row_f32::fill;
 
-fn wide(x: u32) -> usize
-    ensures { result ≡ x }
-{
-    x as usize
-}
-
 // One window's row in its place: the weights from a on, the samples of the output from o on.
 fn place(
     z0: [f32; 4],
@@ -61,23 +55,21 @@ pub(crate) fn rows(
 {
     let mut zz: [f32; 4] = [0.0; 4];
     let mut z: f32 = 0.0;
-    let mut i: usize = 0;
-    while i < starts.len() {
+    for i in 0..starts.len() {
         let m = place(
             zz,
             src,
             row,
-            wide(starts[i]) * row + first,
+            starts[i] as usize * row + first,
             weights,
             i * window,
-            wide(sizes[i]),
+            sizes[i] as usize,
             out,
             i * count,
             count,
         );
         zz = m;
         z = rest(z, out, i * count, count / 16 * 16, count);
-        i = i + 1;
     }
     if !all_four(zz) {
         return false;

@@ -11,7 +11,7 @@ ghost use Rattle.vertical.specs.U16.{passed_u16, written_u16};
 use excesses::stored_fits32;
 use refusal::Refusal;
 use rows::rows;
-use vertical::{Frame, Passed, frame_fits, size_fits};
+use vertical::{Frame, frame_fits, size_fits};
 
 // The value of every window at every column of the range, in `out`; refused with `out` unchanged exactly where document 01 says so.
 pub fn vert_convolution_u16(
@@ -24,12 +24,12 @@ pub fn vert_convolution_u16(
     window_size: u32,
     precision: u32,
     out: &mut [u16],
-) -> Passed
+) -> Result<(), Refusal>
     ensures answer { result ≡ passed_u16 (stored_of (set_of (layout_of frame.lines window_size starts.now sizes.now) weights.now) precision excesses.now) (length src.now) frame.row frame.first frame.count (length out.old) }
     ensures written { out.new ≡ written_u16 (stored_of (set_of (layout_of frame.lines window_size starts.now sizes.now) weights.now) precision excesses.now) src.now frame.row frame.first frame.count out.old }
 {
     if !size_fits(frame, starts.len()) {
-        return Passed::Refused(Refusal::BadSide);
+        return Err(Refusal::BadSide);
     }
     if !stored_fits32(
         frame.lines,
@@ -40,10 +40,10 @@ pub fn vert_convolution_u16(
         sizes,
         excesses,
     ) {
-        return Passed::Refused(Refusal::DoesNotFit);
+        return Err(Refusal::DoesNotFit);
     }
     if !frame_fits(frame, src.len(), starts.len(), out.len()) {
-        return Passed::Refused(Refusal::DoesNotFit);
+        return Err(Refusal::DoesNotFit);
     }
     rows(
         src,
@@ -57,5 +57,5 @@ pub fn vert_convolution_u16(
         precision,
         out,
     );
-    Passed::Done
+    Ok(())
 }

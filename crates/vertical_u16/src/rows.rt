@@ -6,13 +6,6 @@ ghost use Rattle.vertical.specs.Column.{window_value};
 
 use row_u16::fill;
 
-// A start or a size as an index.
-fn wide(x: u32) -> usize
-    ensures { result ≡ x }
-{
-    x as usize
-}
-
 // Every window's row: window i has the camera lines from starts[i] on, sizes[i] of them, and the weights from i * window on.
 pub(crate) fn rows(
     src: &[u16],
@@ -30,15 +23,13 @@ pub(crate) fn rows(
     requires ready { Ready (length src.now) row first count starts.now sizes.now window (length weights.now) (length out.old) }
     ensures { out.new ≡ tab 0 (length starts.now * count) (grid count (window_value 65535 src.now row first starts.now sizes.now window weights.now p)) }
 {
-    let mut i: usize = 0;
     let mut o: usize = 0;
-    while i < starts.len() {
+    for i in 0..starts.len() {
         let a = i * window;
-        let e = a + wide(sizes[i]);
+        let e = a + sizes[i] as usize;
         let f = o + count;
-        let at = wide(starts[i]) * row + first;
+        let at = starts[i] as usize * row + first;
         fill(src, row, at, &weights[a..e], p, &mut out[o..f]);
         o = f;
-        i = i + 1;
     }
 }

@@ -1,5 +1,6 @@
 -- For the customer: each of No. 1, 10 and 9 is given exactly when its test holds and none before it does, and No. 0 exactly when none holds; 10 comes before 9, since
 -- windows must fit before they are summed. Cited by docs/CONTRACTS.md. Assumes nothing.
+use Rattle.std.specs.Prelude.{Ok, Err}
 use mathlib.Core.Path.{◌≡◌, refl}
 use mathlib.Core.Bool.{Bool, true, false, cond, ◌||◌}
 use mathlib.Core.List.{List, [], ◌∷◌}
@@ -10,12 +11,11 @@ use Rattle.refusal.specs.declared.Refusal.TheVariants.{BadSide, DoesNotFit, Weig
 use Rattle.windows.specs.Set.{Stored, windows}
 use Rattle.windows.specs.Store.{store16}
 use Rattle.windows.specs.Fit.{bad_stored}
-use Rattle.vertical.specs.declared.Passed.TheVariants.{Done, Refused}
 use Rattle.vertical.specs.Passed.{number_of}
 use Rattle.vertical.specs.Frame.{bad_size, bad_area}
 use Rattle.vertical_u8.specs.U8.{heavy_windows, passed_u8}
 
-numbered : (a b c d : Bool) → number_of (cond a (Refused BadSide) (cond b (Refused DoesNotFit) (cond c (Refused DoesNotFit) (cond d (Refused WeightOutside) Done)))) ≡ cond a 1 (cond (b || c) 10 (cond d 9 0))
+numbered : (a b c d : Bool) → number_of (cond a (Err BadSide) (cond b (Err DoesNotFit) (cond c (Err DoesNotFit) (cond d (Err WeightOutside) (Ok tt))))) ≡ cond a 1 (cond (b || c) 10 (cond d 9 0))
 numbered true b c d = refl
 numbered false true c d = refl
 numbered false false true d = refl

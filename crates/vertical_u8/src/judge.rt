@@ -7,8 +7,6 @@ ghost use Rattle.row_u8.specs.Sizes.{sizes_total_value};
 ghost use Rattle.vertical_u8.specs.U8.{heavy};
 ghost use Rattle.vertical_u8.specs.Inner.{slot_heavy};
 
-use super::index::index;
-
 // The size of a weight. -1 - w fits for every w below 0, where -w would not.
 fn size(w: i16) -> u64
     ensures { result ≡ nat_abs w }
@@ -25,10 +23,8 @@ fn sizes_total(ws: &[i16]) -> u64
     ensures { (result ≡ sizes_total_value (weight_at ws.now) (length ws.now)) × (result ≤ 2 ^ 28) }
 {
     let mut total: u64 = 0;
-    let mut k: usize = 0;
-    while k < ws.len() {
-        total = total + size(ws[k]);
-        k = k + 1;
+    for w in ws {
+        total += size(*w);
     }
     total
 }
@@ -57,12 +53,10 @@ pub(crate) fn some_heavy(weights: &[i16], sizes: &[u32], window: usize, p: u32) 
     ensures { result ≡ any (length sizes.now) (slot_heavy window weights.now sizes.now p) }
 {
     let mut bad = false;
-    let mut i: usize = 0;
-    while i < sizes.len() {
+    for i in 0..sizes.len() {
         let a = i * window;
-        let e = a + index(sizes[i]);
+        let e = a + sizes[i] as usize;
         bad = bad | is_heavy(&weights[a..e], p);
-        i = i + 1;
     }
     bad
 }

@@ -3,7 +3,6 @@
 // output window by window, each row by the worker `row_u8` lends.
 #![tactic(auto)]
 
-mod index;
 mod judge;
 mod rows;
 
@@ -15,7 +14,7 @@ use excesses::stored_fits16;
 use judge::some_heavy;
 use refusal::Refusal;
 use rows::rows;
-use vertical::{Frame, Passed, frame_fits, size_fits};
+use vertical::{Frame, frame_fits, size_fits};
 
 // The value of every window at every column of the range, in `out`; refused with `out` unchanged exactly where document 02 says so.
 pub fn vert_convolution_u8(
@@ -28,12 +27,12 @@ pub fn vert_convolution_u8(
     window_size: u32,
     precision: u32,
     out: &mut [u8],
-) -> Passed
+) -> Result<(), Refusal>
     ensures answer { result ≡ passed_u8 (stored_of (set_of (layout_of frame.lines window_size starts.now sizes.now) weights.now) precision excesses.now) (length src.now) frame.row frame.first frame.count (length out.old) }
     ensures written { out.new ≡ written_u8 (stored_of (set_of (layout_of frame.lines window_size starts.now sizes.now) weights.now) precision excesses.now) src.now frame.row frame.first frame.count out.old }
 {
     if !size_fits(frame, starts.len()) {
-        return Passed::Refused(Refusal::BadSide);
+        return Err(Refusal::BadSide);
     }
     if !stored_fits16(
         frame.lines,
@@ -44,13 +43,13 @@ pub fn vert_convolution_u8(
         sizes,
         excesses,
     ) {
-        return Passed::Refused(Refusal::DoesNotFit);
+        return Err(Refusal::DoesNotFit);
     }
     if !frame_fits(frame, src.len(), starts.len(), out.len()) {
-        return Passed::Refused(Refusal::DoesNotFit);
+        return Err(Refusal::DoesNotFit);
     }
     if some_heavy(weights, sizes, window_size as usize, precision) {
-        return Passed::Refused(Refusal::WeightOutside);
+        return Err(Refusal::WeightOutside);
     }
     rows(
         src,
@@ -64,5 +63,5 @@ pub fn vert_convolution_u8(
         precision,
         out,
     );
-    Passed::Done
+    Ok(())
 }

@@ -5,7 +5,6 @@ ghost use Rattle.vertical.specs.Ready.{Ready};
 ghost use Rattle.vertical.specs.Column.{window_value};
 ghost use Rattle.vertical_u8.specs.Inner.{slot_heavy};
 
-use super::index::index;
 use row_u8::fill;
 
 // Every window's row: window i has the camera lines from starts[i] on, sizes[i] of them, and the weights from i * window on.
@@ -26,15 +25,13 @@ pub(crate) fn rows(
     requires p_value { any (length sizes.now) (slot_heavy window weights.now sizes.now p) ≡ false }
     ensures { out.new ≡ tab 0 (length starts.now * count) (grid count (window_value 255 src.now row first starts.now sizes.now window weights.now p)) }
 {
-    let mut i: usize = 0;
     let mut o: usize = 0;
-    while i < starts.len() {
+    for i in 0..starts.len() {
         let a = i * window;
-        let e = a + index(sizes[i]);
+        let e = a + sizes[i] as usize;
         let f = o + count;
-        let at = index(starts[i]) * row + first;
+        let at = starts[i] as usize * row + first;
         fill(src, row, at, &weights[a..e], p, &mut out[o..f]);
         o = f;
-        i = i + 1;
     }
 }

@@ -12,14 +12,12 @@ pub fn precision(weights: &[f64], store: Store) -> u32
     ensures { result ≡ precisionF store weights.now }
 {
     let w = largest(weights);
-    let mut p: u32 = 0;
-    while p + 1 < store.bits {
+    for p in 0..store.bits - 1 {
         if reach(store.limit, w, p) {
             return p;
         }
-        p += 1;
     }
-    p
+    store.bits - 1
 }
 
 // Whether the weight is at least 2^limit at the precision after p. The product is rounded before it is compared: 65535 / 65536 has precision 14.
@@ -35,14 +33,12 @@ fn reach(limit: u32, w: f64, p: u32) -> bool
 fn largest(weights: &[f64]) -> f64
     ensures { result ≡ largestF weights.now }
 {
-    if weights.len() == 0 {
+    if weights.is_empty() {
         return 0.0;
     }
     let mut best = weights[0];
-    let mut k: usize = 0;
-    while k < weights.len() {
-        best = larger(best, weights[k]);
-        k += 1;
+    for weight in weights {
+        best = larger(best, *weight);
     }
     best
 }

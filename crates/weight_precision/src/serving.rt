@@ -15,10 +15,8 @@ pub fn some_not_finite(weights: &[f64]) -> bool
     ensures { result ≡ any (length weights.now) (not_finite_value weights.now) }
 {
     let mut bad = false;
-    let mut k: usize = 0;
-    while k < weights.len() {
-        bad = bad | !finite(weights[k]);
-        k += 1;
+    for weight in weights {
+        bad = bad | !finite(*weight);
     }
     bad
 }
@@ -64,11 +62,9 @@ fn some_outside(low: f64, high: f64, unit: f64, weights: &[f64]) -> bool
     ensures { result ≡ any (length weights.now) (outside low high unit weights.now) }
 {
     let mut bad = false;
-    let mut k: usize = 0;
-    while k < weights.len() {
-        let x = weights[k] * unit;
+    for weight in weights {
+        let x = *weight * unit;
         bad = bad | !((low < x) & (x < high));
-        k += 1;
     }
     bad
 }
@@ -82,10 +78,8 @@ fn some_leaves(store: Store, p: u32, window_size: u32, weights: &[f64], sizes: &
     ensures { result ≡ any (length weights.now) (leaves store p window_size weights.now sizes.now) }
 {
     let mut bad = false;
-    let mut k: usize = 0;
-    while k < weights.len() {
-        bad = bad | (in_use(k, window_size, sizes) & !holds(store, scaled(weights[k], p)));
-        k += 1;
+    for (k, weight) in weights.iter().enumerate() {
+        bad = bad | (in_use(k, window_size, sizes) & !holds(store, scaled(*weight, p)));
     }
     bad
 }

@@ -1,9 +1,7 @@
 // `weight_slots`: the weights of a set that was judged, as integers in the slots of a store: weight x 2^precision rounded half away from zero where a slot is in use, else 0
-// (`slot_at`). `write16` and `write32` are lent to the normalisers.
+// (`slot_at`). `write` is lent to the normalisers.
 #![tactic(auto)]
 
-mod slots16;
-mod slots32;
+mod slots;
 
-pub use slots16::write16;
-pub use slots32::write32;
+pub use slots::write;

@@ -1,109 +1,39 @@
 // A line for each camera line of a window: its number, a bar as long as its weight is large, left of zero where the weight is negative, and its sample.
-use answer_lines::size;
-use sheet_files::streams::{out, out_byte, out_number};
+ghost use Rattle.std.specs.Prelude.{◌≤◌};
 
 // The longest bar.
-const LONGEST: u64 = 30;
-
-// The largest size of a weight.
-fn largest(weights: &[i32]) -> u64 {
-    let mut most: u64 = 0;
-    let mut k: usize = 0;
-    while k < weights.len() {
-        most = larger(most, size(wide(weights[k])));
-        k += 1;
-    }
-    most
-}
-
-// A weight in 64 bits.
-fn wide(x: i32) -> i64 {
-    x as i64
-}
-
-fn larger(a: u64, b: u64) -> u64 {
-    if a < b { b } else { a }
-}
+const LONGEST: usize = 30;
 
 // How long the bar of a weight is beside the largest: none for 0, else at least 1.
-fn bar(weight: u64, most: u64) -> u64 {
+fn bar(weight: u32, most: u32) -> usize
+    ensures { result ≤ 30 }
+{
     if most <= weight {
-        if weight == 0 {
-            return 0;
-        }
-        return LONGEST;
+        return if weight == 0 { 0 } else { LONGEST };
     }
-    if 0xffff_ffff < most {
-        return LONGEST;
-    }
-    (weight * LONGEST + (most - 1)) / most
+    let part = (weight as u64 * LONGEST as u64).div_ceil(most as u64);
+    LONGEST.min(part as usize)
 }
 
 // A line for each camera line from `first` on.
-pub(crate) fn bars(rt: HostRuntime, first: u64, weights: &[i32], samples: &[u16]) {
-    let most = largest(weights);
-    let mut k: usize = 0;
-    while k < weights.len() {
-        if samples.len() <= k {
-            return;
-        }
-        if u64::MAX - first < k as u64 {
-            return;
-        }
-        drawn(rt, first + k as u64, wide(weights[k]), samples[k], most);
-        k += 1;
+pub(crate) fn bars(rt: HostRuntime, first: u32, weights: &[i32], samples: &[u16]) {
+    let most = weights.iter().map(|w| w.unsigned_abs()).max().unwrap_or(0);
+    for (k, (weight, sample)) in weights.iter().zip(samples).enumerate() {
+        drawn(
+            rt,
+            (first as u64).saturating_add(k as u64),
+            *weight,
+            *sample,
+            most,
+        );
     }
 }
 
 // One line.
-fn drawn(rt: HostRuntime, line: u64, weight: i64, sample: u16, most: u64) {
-    let n = bar(size(weight), most);
-    right(rt, line, 1000);
-    out(rt, b" ");
-    if weight < 0 {
-        sided(rt, n, b' ', b'#');
-        out(rt, b"|");
-        sided(rt, 0, b'#', b' ');
-    } else {
-        sided(rt, 0, b' ', b'#');
-        out(rt, b"|");
-        sided(rt, n, b'#', b' ');
-    }
-    out(rt, b" ");
-    right(rt, sample as u64, 10000);
-    out(rt, b"\n");
-}
-
-// One side of zero: on the left the bar comes last, on the right first.
-fn sided(rt: HostRuntime, n: u64, outer: u8, inner: u8) {
-    if LONGEST < n {
-        return;
-    }
-    if outer == b'#' {
-        many(rt, n, outer);
-        return many(rt, LONGEST - n, inner);
-    }
-    many(rt, LONGEST - n, outer);
-    many(rt, n, inner);
-}
-
-// A byte so many times.
-fn many(rt: HostRuntime, n: u64, b: u8) {
-    let mut i: u64 = 0;
-    while i < n {
-        out_byte(rt, b);
-        i += 1;
-    }
-}
-
-// A number to the right, where `most` is the highest place that it may fill.
-fn right(rt: HostRuntime, n: u64, most: u64) {
-    let mut place = most;
-    while 1 < place {
-        if n < place {
-            out_byte(rt, b' ');
-        }
-        place = place / 10;
-    }
-    out_number(rt, n);
+fn drawn(rt: HostRuntime, line: u64, weight: i32, sample: u16, most: u32) {
+    let n = bar(weight.unsigned_abs(), most);
+    let (left, right) = if weight < 0 { (n, 0) } else { (0, n) };
+    let (before, behind) = (LONGEST - left, LONGEST - right);
+    let _ = print!(rt; "{line:>4} {:before$}{:#>left$}|", "", "");
+    let _ = println!(rt; "{:#>right$}{:behind$} {sample:>5}", "", "");
 }

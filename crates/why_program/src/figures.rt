@@ -1,23 +1,23 @@
 // The two numbers of a place, from the arguments.
-use frame_files::{Whole, whole_at};
+use frame_files::whole_at;
 
-// A display line and a column; or which of the two is no number.
-#[derive(Drop)]
-pub(crate) enum Place {
-    At(u32, u32),
-    NoLine,
-    NoColumn,
+// A display line and a column.
+#[derive(Clone, Copy)]
+pub(crate) struct Place {
+    pub(crate) line: u32,
+    pub(crate) column: u32,
+}
+
+// Which of the two is no number.
+#[derive(Clone, Copy)]
+pub(crate) enum NoNumber {
+    Line,
+    Column,
 }
 
 // The place.
-pub(crate) fn asked_place(rt: HostRuntime) -> Place {
-    let first = whole_at(rt, 3);
-    let Whole::Is(line) = first else {
-        return Place::NoLine;
-    };
-    let second = whole_at(rt, 4);
-    let Whole::Is(column) = second else {
-        return Place::NoColumn;
-    };
-    Place::At(line, column)
+pub(crate) fn asked_place(rt: HostRuntime) -> Result<Place, NoNumber> {
+    let line = whole_at(rt, 3).ok_or(NoNumber::Line)?;
+    let column = whole_at(rt, 4).ok_or(NoNumber::Column)?;
+    Ok(Place { line, column })
 }

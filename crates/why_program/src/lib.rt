@@ -11,8 +11,9 @@ mod said;
 mod set_lists;
 mod told;
 
-use figures::Place;
-use reader::Reading;
+use figures::NoNumber;
+use reader::Unread;
+use set_lists::Lists;
 use sheet_scan::{Sizes, StoreLines};
 
 // Answers the program's arguments: SHEET FRAME LINE COLUMN, and `draw` where the window is to be drawn too. The text stands here, apart from what looks at it.
@@ -29,12 +30,9 @@ pub fn run(rt: HostRuntime) {
 }
 
 // Reads the sheet's file, and what it has.
-fn answer(rt: HostRuntime, text: &mut [u8]) {
-    let a: usize = 0;
-    let got = sheet_files::text_of(rt, 1, text);
-    let n = got.n;
-    if got.whole {
-        judge(rt, &text[a..n]);
+fn answer(rt: HostRuntime, room: &mut [u8]) {
+    if let Some(text) = sheet_files::text_of(rt, 1, room) {
+        judge(rt, text);
     }
 }
 
@@ -65,9 +63,9 @@ fn read(
 ) {
     let answer = reader::read_sheet(text, weights, starts, sizes, excesses);
     match answer {
-        Reading::Loaded(head, store) => asked(rt, head, store, weights, starts, sizes, excesses),
-        Reading::TooFew => sheet_files::too_large(rt),
-        Reading::NotASheet(byte) => sheet_files::refused(rt, text, byte),
+        Ok((head, store)) => asked(rt, head, store, weights, starts, sizes, excesses),
+        Err(Unread::TooFew) => sheet_files::too_large(rt),
+        Err(Unread::NotASheet(byte)) => sheet_files::refused(rt, text, byte),
     }
 }
 
@@ -81,12 +79,15 @@ fn asked(
     sizes: &[u32],
     excesses: &[i64],
 ) {
-    let place = figures::asked_place(rt);
-    match place {
-        Place::At(line, column) => told::story(
-            rt, head, store, line, column, weights, starts, sizes, excesses,
-        ),
-        Place::NoLine => frame_files::no_number(rt, b"line", b"LINE"),
-        Place::NoColumn => frame_files::no_number(rt, b"column", b"COLUMN"),
+    let lists = Lists {
+        weights,
+        starts,
+        sizes,
+        excesses,
+    };
+    match figures::asked_place(rt) {
+        Ok(place) => told::story(rt, head, store, place, lists),
+        Err(NoNumber::Line) => frame_files::no_number(rt, "line", "LINE"),
+        Err(NoNumber::Column) => frame_files::no_number(rt, "column", "COLUMN"),
     }
 }

@@ -2,69 +2,50 @@
 use crate::told::Asked;
 use crate::{drawn, said};
 use frame_files::times;
-use sheet_files::streams::out;
-use story::Told;
+use program_streams::out;
 use windows::DisplayLine;
 
-// The set's own part of each list.
-pub(crate) fn listed(
-    rt: HostRuntime,
-    q: Asked,
-    at: u32,
-    samples: &[u16],
-    weights: &[i32],
-    starts: &[u32],
-    sizes: &[u32],
-    excesses: &[i64],
-) {
-    let a: usize = 0;
-    let n = q.windows as usize;
-    let m = times(q.windows, q.window_size);
-    if weights.len() < m {
-        return;
+// A set in four lists.
+#[derive(Clone, Copy)]
+pub(crate) struct Lists<'a> {
+    pub(crate) weights: &'a [i32],
+    pub(crate) starts: &'a [u32],
+    pub(crate) sizes: &'a [u32],
+    pub(crate) excesses: &'a [i64],
+}
+
+impl<'a> Lists<'a> {
+    // The beginnings that a set of so many windows of such a size has, if the lists are as long.
+    fn cut(self, windows: u32, window_size: u32) -> Option<Lists<'a>> {
+        let n = windows as usize;
+        Some(Lists {
+            weights: self.weights.get(..times(windows, window_size))?,
+            starts: self.starts.get(..n)?,
+            sizes: self.sizes.get(..n)?,
+            excesses: self.excesses.get(..n)?,
+        })
     }
-    if starts.len() < n {
-        return;
+}
+
+// The set's own part of each list, and the story.
+pub(crate) fn listed(rt: HostRuntime, q: Asked, at: u32, samples: &[u16], lists: Lists<'_>) {
+    if let Some(set) = lists.cut(q.windows, q.window_size) {
+        tell(rt, q, at, samples, set);
     }
-    if sizes.len() < n {
-        return;
-    }
-    if excesses.len() < n {
-        return;
-    }
-    tell(
-        rt,
-        q,
-        at,
-        samples,
-        &weights[a..m],
-        &starts[a..n],
-        &sizes[a..n],
-        &excesses[a..n],
-    );
 }
 
 // The story, and where it is none, why. The longest has 8,192 lines of 45 bytes and some more.
-fn tell(
-    rt: HostRuntime,
-    q: Asked,
-    at: u32,
-    samples: &[u16],
-    weights: &[i32],
-    starts: &[u32],
-    sizes: &[u32],
-    excesses: &[i64],
-) {
+fn tell(rt: HostRuntime, q: Asked, at: u32, samples: &[u16], set: Lists<'_>) {
     let mut list = [0u8; 524288];
     let text = sheet_files::room(&mut list);
     let answer = story::story(
         samples,
         q.lines,
         1,
-        weights,
-        starts,
-        sizes,
-        excesses,
+        set.weights,
+        set.starts,
+        set.sizes,
+        set.excesses,
         q.window_size,
         q.precision,
         DisplayLine(q.line),
@@ -72,21 +53,17 @@ fn tell(
         text,
     );
     match answer {
-        Told::Written(length) => {
+        Ok(length) => {
             show(rt, text, length);
-            drawn::window(rt, q, samples, weights, starts, sizes);
+            drawn::window(rt, q, samples, set);
         }
-        Told::Refused(refusal) => said::refused(rt, refusal, q),
+        Err(refusal) => said::refused(rt, refusal, q),
     }
 }
 
 // The text's first bytes.
 fn show(rt: HostRuntime, text: &[u8], length: u64) {
-    let a: usize = 0;
-    let n = text.len();
-    if (n as u64) < length {
-        return;
+    if let Some(story) = text.get(..length as usize) {
+        out(rt, story);
     }
-    let e = length as usize;
-    out(rt, &text[a..e]);
 }

@@ -1,6 +1,7 @@
 // A place of a frame: the frame's shape, and the samples of its column.
+use crate::figures::Place;
 use crate::frame;
-use crate::set_lists::listed;
+use crate::set_lists::{Lists, listed};
 use sheet_scan::{Sizes, StoreLines};
 use std::fs::File;
 
@@ -21,84 +22,41 @@ pub(crate) fn story(
     rt: HostRuntime,
     head: Sizes,
     store: StoreLines,
-    line: u32,
-    column: u32,
-    weights: &[i32],
-    starts: &[u32],
-    sizes: &[u32],
-    excesses: &[i64],
+    place: Place,
+    lists: Lists<'_>,
 ) {
-    let opened = frame_files::opened(rt, 2);
-    let Some(file) = opened else {
+    let Some(file) = frame_files::opened(rt, 2) else {
         return frame_files::no_frame(rt);
     };
-    let row = frame_files::row(rt, &file, head.lines, true);
-    if row == 0 {
-        return;
-    }
-    sampled(
-        rt,
-        &file,
-        Asked {
+    if let Some(row) = frame_files::row(rt, &file, head.lines, true) {
+        let q = Asked {
             lines: head.lines,
             windows: head.windows,
             window_size: head.window_size,
             precision: store.precision,
-            row: row,
-            line: line,
-            column: column,
-        },
-        weights,
-        starts,
-        sizes,
-        excesses,
-    );
+            row,
+            line: place.line,
+            column: place.column,
+        };
+        sampled(rt, &file, q, lists);
+    }
 }
 
 // The column's samples stand here, apart from what looks at them.
-fn sampled(
-    rt: HostRuntime,
-    file: &File,
-    q: Asked,
-    weights: &[i32],
-    starts: &[u32],
-    sizes: &[u32],
-    excesses: &[i64],
-) {
-    let a: usize = 0;
-    let n = q.lines as usize;
+fn sampled(rt: HostRuntime, file: &File, q: Asked, lists: Lists<'_>) {
     let mut samples = [0u16; 8192];
-    if 8192 < n {
-        return;
+    if let Some(column) = samples.get_mut(..q.lines as usize) {
+        columned(rt, file, q, column, lists);
     }
-    columned(
-        rt,
-        file,
-        q,
-        &mut samples[a..n],
-        weights,
-        starts,
-        sizes,
-        excesses,
-    );
 }
 
 // The column, read. One past the row is not read: the story of column 1 of a frame one column wide is refused as it is.
-fn columned(
-    rt: HostRuntime,
-    file: &File,
-    q: Asked,
-    samples: &mut [u16],
-    weights: &[i32],
-    starts: &[u32],
-    sizes: &[u32],
-    excesses: &[i64],
-) {
+fn columned(rt: HostRuntime, file: &File, q: Asked, samples: &mut [u16], lists: Lists<'_>) {
     if q.row <= q.column {
-        return listed(rt, q, 1, samples, weights, starts, sizes, excesses);
+        return listed(rt, q, 1, samples, lists);
     }
-    if !frame::column(file, q.row, q.column, samples) {
+    if frame::column(file, q.row, q.column, samples).is_err() {
         return frame_files::no_frame(rt);
     }
-    listed(rt, q, 0, samples, weights, starts, sizes, excesses);
+    listed(rt, q, 0, samples, lists);
 }

@@ -1,35 +1,29 @@
 -- The proof of `RectangleCut`: the unit's rows are its own columns of the whole's, and of these it writes its own lines. Assumes nothing.
-use mathlib.Core.Path.{◌≡◌, refl, sym, ap, ◌∙◌}
+use Rattle.std.specs.Prelude.{Ok}
+use mathlib.Core.Path.{◌≡◌, sym, ap, ◌∙◌}
 use mathlib.Core.List.{List}
-use Prim.Native.Nat.{ℕ, ◌+◌, ◌*◌, ◌≤◌, ◌<◌}
-use native.Mathlib.Nat.{zero-add, add-mul, mul-le-mul, mul-le-mul_right, le_of_mul-le-mul_right, le_antisymm}
+use Prim.Native.Nat.{ℕ, ◌+◌, ◌*◌, ◌≤◌}
+use native.Mathlib.Nat.{add-mul, mul-le-mul, mul-le-mul_right, le_of_mul-le-mul_right, le_antisymm}
 use native.Mathlib.Omega.{arith}
-use lib.IntN.{pos}
-use lib.ListN.{length, get_or}
-use borrow.Author.Tests.{le-ltb, eq-eqb}
-use Rattle.lists.specs.Ranges.{outside, bad_sides_value}
+use lib.ListN.{length}
 use Rattle.lists.specs.Tab.{tab, grid}
-use Rattle.lists.proofs.BoolLaws.{or_left}
 use Rattle.lists.proofs.TabLaws.{length_tab}
-use Rattle.integers.proofs.Sums.{total_ext}
-use Rattle.windows.specs.Set.{Stored, windows, start, size, weight, sample}
+use Rattle.windows.specs.Set.{Stored, windows}
 use Rattle.windows.specs.Store.{store32}
-use Rattle.vertical.specs.declared.Passed.TheVariants.{Done}
-use Rattle.vertical.specs.Frame.{frame, columns}
+use Rattle.vertical.specs.Frame.{columns}
 use Rattle.vertical.specs.Passed.{number_of}
 use Rattle.vertical.specs.U16.{value_at, passed_u16, written_u16}
-use Rattle.vertical.proofs.Answers.{Shaped, Tests, tests_u16, tests_shaped}
+use Rattle.vertical.proofs.Answers.{Shaped, tests_u16, tests_shaped}
 use Rattle.sideways.specs.Exchange.{turned, rows_of}
 use Rattle.sideways.specs.Sideways.{passed_sideways, written_sideways}
 use Rattle.sideways.proofs.Answers.{pixels_fit, done_sideways}
-use Rattle.sideways.proofs.FrameLaws.{frame_at, frame_ext}
 use Rattle.promises.proofs.Accepted.{passed_done}
 use Rattle.promises.proofs.ColumnCuts.{columns_cut_u16}
 use Rattle.strips.proofs.Strips.{strip_u16}
 use Rattle.window_cuts.specs.Run.{run_of}
 use Rattle.window_cuts.specs.Rectangle.{rectangle, BothDone, displayed, RectangleCut}
-use Rattle.window_cuts.proofs.RunLaws.{within_not, windows_run}
-use Rattle.window_cuts.proofs.WindowCuts.{done_u16, windows_cut_u16, windows_cut_sideways}
+use Rattle.window_cuts.proofs.RunLaws.{windows_run}
+use Rattle.window_cuts.proofs.WindowCuts.{windows_cut_u16, windows_cut_sideways}
 
 module _ (across down : Stored) (src : List ℕ) (components rows row : ℕ) (between whole : List ℕ) (done : BothDone across down src components rows row between whole)
     (a n b m : ℕ) (part list : List ℕ) (some-n : 1 ≤ n) (fit_n : a + n ≤ windows across.set.layout) (some-m : 1 ≤ m) (fit-m : b + m ≤ windows down.set.layout)
@@ -47,7 +41,7 @@ module _ (across down : Stored) (src : List ℕ) (components rows row : ℕ) (be
   abbrev spare : List ℕ
   spare = tab 0 (m * wide) (λ k. 0)
 
-  taken : passed_sideways across (length src) components rows row 0 rows (length between) ≡ Done
+  taken : passed_sideways across (length src) components rows row 0 rows (length between) ≡ Ok tt
   taken = passed_done (passed_sideways across (length src) components rows row 0 rows (length between)) done.sideways
 
   fits_across : Shaped across.set (length src) (rows * components) (0 * components) (rows * components) (length between)

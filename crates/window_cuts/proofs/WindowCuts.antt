@@ -1,4 +1,5 @@
 -- The proofs of `WindowsCut` and `WindowsCutSideways`: a window of the run has the start, the size and the weights that it has in the whole set. Assumes nothing.
+use Rattle.std.specs.Prelude.{Ok}
 use mathlib.Core.Path.{◌≡◌, refl, sym, ap, ◌∙◌}
 use Prim.Native.Nat.{ℕ, ◌+◌, ◌*◌, ◌/◌, ◌%◌, ◌≤◌, ◌<◌}
 use native.Mathlib.Nat.{add-mul, mul-le-mul_right, mod-lt, div-lt_iff_lt-mul, div-add-mod', mul_left_comm}
@@ -7,7 +8,6 @@ use lib.ListN.{length, get_or}
 use Rattle.lists.specs.Tab.{grid}
 use Rattle.windows.specs.Set.{Stored, windows, size}
 use Rattle.windows.specs.Store.{store32}
-use Rattle.vertical.specs.declared.Passed.TheVariants.{Done}
 use Rattle.vertical.specs.Frame.{frame, output, columns}
 use Rattle.vertical.specs.Passed.{number_of}
 use Rattle.vertical.specs.U16.{value_at, passed_u16, written_u16}
@@ -23,7 +23,7 @@ use Rattle.window_cuts.specs.WindowCuts.{WindowsCut, WindowsCutSideways}
 use Rattle.window_cuts.proofs.RunLaws.{windows_run, value_run, tests_run}
 
 -- none of the tests refuses
-pub done_u16 : (s : Stored) (samples row first count room : ℕ) → Tests store32 s samples row first count room → passed_u16 s samples row first count room ≡ Done
+pub done_u16 : (s : Stored) (samples row first count room : ℕ) → Tests store32 s samples row first count room → passed_u16 s samples row first count room ≡ Ok tt
 unfolding passed_u16
 done_u16 s samples row first count room t = rw (t.size, t.stored, t.area)
 

@@ -31,14 +31,12 @@ pub(crate) fn some_misfits(lines: u32, window_size: u32, starts: &[u32], sizes: 
     ensures answer { result ≡ any (length starts.now) (bad_at (layout_of lines window_size starts.now sizes.now)) }
 {
     let mut bad = false;
-    let mut i: usize = 0;
-    while i < starts.len() {
+    for (i, start) in starts.iter().enumerate() {
         let w = Window {
-            start: CameraLine(starts[i]),
+            start: CameraLine(*start),
             size: sizes[i],
         };
         bad = bad | misfits(w, lines, window_size);
-        i += 1;
     }
     bad
 }

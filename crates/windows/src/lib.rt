@@ -4,6 +4,7 @@
 
 mod counts;
 mod precisions;
+mod weights;
 
 ghost use Rattle.std.specs.Prelude.{◌≡◌, not};
 ghost use Rattle.lists.specs.Ranges.{bad_sides_value};
@@ -13,6 +14,7 @@ ghost use Rattle.windows.specs.Fit.{bad_set};
 pub use counts::fills;
 use counts::{counts_misfit, some_misfits};
 pub use precisions::precision_fits;
+pub use weights::Weight;
 
 // a line of the camera's frame, counted from 0
 #[derive(Clone, Copy)]

@@ -34,12 +34,6 @@ some_negative-negative-requires c =
 pub window_report-requires : goal.window_report-requires
 window_report-requires c = c.requires.le_lines.6
 
-pub overflow_add-i : goal.overflow_add-i
-overflow_add-i c =
-    let low = c.loop-i-test.true in
-    let few = c.requires.le_lines.2 in
-    record { fits = omega arith }
-
 pub loop-i-preserved : goal.loop-i-preserved
 loop-i-preserved c =
     let inv = c.loop-i.invariant in

@@ -1,9 +1,10 @@
 -- `place` meets its contract: the parts end inside the lists and are as long as `make` asks, and what `make` and `keep` leave is `after` (Placed). Assumes nothing.
+use Rattle.std.specs.Prelude.{Result, ℕ}
 use mathlib.Core.Path.{sym, subst}
 use native.Mathlib.Nat.{le_trans, le_of_eq}
 use lib.ListN.{length}
 use Rattle.made_sets.specs.Made.{made_of}
-use Rattle.store_sets.specs.declared.Outcome.{Outcome}
+use Rattle.coefficients.specs.declared.NotBuilt.{NotBuilt}
 use Rattle.share_lists.specs.Inner.{Few}
 use Rattle.shares.specs.Store.{store_of}
 use Rattle.shares.specs.Scratch.{scratch_of}
@@ -56,7 +57,7 @@ keep-requires c =
     let l = lists_lent s a.client lent c.requires in
     let mk = c.make-made in
     let n = length (part_slots s a.client lent c.requires a.request c.slot_base-a.result c.share-room.result c.line_base-b.result c.slot_base-a.ensures.answer.0 c.share-room.ensures.answer.0 c.line_base-b.ensures.answer) in
-    record { numbers_len_1 = o.ten; numbers_len_2 = o.one_of_two; numbers_len_3 = o.all_starts; numbers_len_4 = o.all_sizes; few_1 = subst (λ (m : Outcome). Few m a.request.output) (sym mk.ensures.answer) (few_made a.request n (made_of a.request n) (new_made a.request n)); few_2 = le_trans l.firsts_there (le_of_eq (sym mk.auto.firsts)); few_3 = le_trans l.counts_there (le_of_eq (sym mk.auto.counts)) }
+    record { numbers_len_1 = o.ten; numbers_len_2 = o.one_of_two; numbers_len_3 = o.all_starts; numbers_len_4 = o.all_sizes; few_1 = subst (λ (m : Result (ℕ × ℕ) NotBuilt). Few m a.request.output) (sym mk.ensures.answer) (few_made a.request n (made_of a.request n) (new_made a.request n)); few_2 = le_trans l.firsts_there (le_of_eq (sym mk.auto.firsts)); few_3 = le_trans l.counts_there (le_of_eq (sym mk.auto.counts)) }
 
 pub returns : goal.returns
 returns c =

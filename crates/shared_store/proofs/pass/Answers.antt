@@ -16,12 +16,12 @@ returns-in_default c =
 pub pass_at-requires : goal.pass_at-requires
 pass_at-requires c =
     let a = c.args in
-    let f = found_at (store_of a.numbers.now a.slots.now a.starts.now a.sizes.now a.excesses.now) a.client c.in-At.p (sym c.find-found.ensures.answer ∙ c.in-At.is) in
+    let f = found_at (store_of a.numbers.now a.slots.now a.starts.now a.sizes.now a.excesses.now) a.client c.in-Some.p (sym c.find-found.ensures.answer ∙ c.in-Some.is) in
     record { from_le_to = (f.from_to, (f.in_slots, (f.head_tail, f.in_starts))); tail_in_bounds = (f.in_sizes, f.in_excesses) }
 
 pub returns : goal.returns
 unfolding view_of passed_with written_with
 returns c =
     let a = c.args in
-    let f = found_at (store_of a.numbers.now a.slots.now a.starts.now a.sizes.now a.excesses.now) a.client c.in-At.p (sym c.find-found.ensures.answer ∙ c.in-At.is) in
+    let f = found_at (store_of a.numbers.now a.slots.now a.starts.now a.sizes.now a.excesses.now) a.client c.in-Some.p (sym c.find-found.ensures.answer ∙ c.in-Some.is) in
     rw f.holds (record { answer = c.pass_at.ensures.answer; written = c.pass_at.ensures.written })

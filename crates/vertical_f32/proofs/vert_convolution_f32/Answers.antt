@@ -1,4 +1,5 @@
 -- Each way out is one lemma of `Judged`, at the set that the lists make; what the judge and the scans said gives `rows` its premises. Assumes nothing.
+use Rattle.std.specs.Prelude.{Ok}
 use mathlib.Core.Bool.{not}
 use mathlib.Core.Path.{ap, ◌∙◌}
 use Prim.Native.Nat.{◌≤◌}
@@ -9,7 +10,6 @@ use lib.ListN.{length}
 use Rattle.lists.proofs.BoolLaws.{asked_bad, asked_good}
 use Rattle.vertical.proofs.Answers.{shaped}
 use Rattle.vertical.proofs.Turns.{ready}
-use Rattle.vertical.specs.declared.PassedF32.TheVariants.{Done}
 use Rattle.vertical.specs.F32.{bad_weights, bad_samples}
 use Rattle.vertical.specs.Frame.{bad_size, bad_shape}
 use Rattle.windows.specs.Set.{Set, layout_of, set_of, windows}
@@ -122,4 +122,4 @@ returns c =
     r.new.out
     r.auto.out
     r.ensures.by_index in
-    record { answer = ap Done c.counted.ensures ∙ d.0; written = d.1 }
+    record { answer = ap Ok c.counted.ensures ∙ d.0; written = d.1 }

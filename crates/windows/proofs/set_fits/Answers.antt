@@ -2,7 +2,6 @@
 use mathlib.Core.Path.{sym, ap, ◌∙◌}
 use mathlib.Core.Bool.{not}
 use lib.ListN.{length}
-use borrow.Author.Rules.{rules}
 use Rattle.windows.proofs.Fits.{pairs}
 use Rattle.windows.proofs.set_fits.Goals as goal
 

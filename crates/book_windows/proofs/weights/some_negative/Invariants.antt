@@ -1,11 +1,7 @@
 -- `some_negative`: after j turns the flag says whether one of j weights is negative, and the next one is at p (`Looked`). Assumes nothing.
-use Prim.Native.Nat.{◌-◌}
 use Rattle.sheet_scan.specs.Lines.{weight_item}
 use Rattle.book_windows.proofs.SignsLaws.{Looked}
 use Rattle.book_windows.proofs.weights.some_negative.Given as goal
 
 abbrev pub invariant-loop-j : goal.invariant-loop-j
 invariant-loop-j l = Looked (weight_item l.limit l.size) l.text l.size l.at l.some l.p l.j
-
-abbrev pub decreases-loop-j : goal.decreases-loop-j
-decreases-loop-j l = l.size - l.j

@@ -29,5 +29,6 @@ pub returns : goal.returns
 returns c =
     let s = c.loop-k in
     let text = c.args.text.now in
+    let end : length text ≡ s.k = omega arith in
     let all : length text - s.k ≡ 0 = omega arith in
-    record { answer = sym (s.invariant.1 ∙ ap (first (is_point text) s.k) all) }
+    record { answer = end ∙ sym (s.invariant.1 ∙ ap (first (is_point text) s.k) all) }

@@ -6,6 +6,3 @@ use Rattle.crop_edges.proofs.decimal.point_at.Given as goal
 
 abbrev pub invariant-loop-k : goal.invariant-loop-k
 invariant-loop-k l = (l.k ≤ length l.text) × (point_at_value l.text ≡ first (is_point l.text) l.k (length l.text - l.k))
-
-abbrev pub decreases-loop-k : goal.decreases-loop-k
-decreases-loop-k l = length l.text - l.k

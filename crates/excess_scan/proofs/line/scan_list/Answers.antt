@@ -1,11 +1,10 @@
 -- `line::scan_list`: the goals that the check leaves; the argument stands in Invariants.antt. Assumes nothing.
-use mathlib.Core.Path.{ap, ◌∙◌}
 use native.Mathlib.Omega.{arith}
 use mir.Facts.{to_z-of_z}
 use mir.Syntax.{w64}
 use mir.Val.{SFits}
 use borrow.Author.Rules.{rules}
-use Rattle.scan.specs.Answer.{pass_place}
+use Rattle.scan.proofs.Handed.{handed}
 use Rattle.scan.proofs.FieldLaws.{found_within}
 use Rattle.excess_scan.proofs.LineLaws.{lined_there, lined_items}
 use Rattle.excess_scan.proofs.CompareLaws.{compared_none, compared_more, compared_stopped, compared_all}
@@ -26,18 +25,17 @@ window_excess-e-requires c =
     let few = c.requires.le_lines.1 in
     record { precision_bound = (c.requires.le_lines.5, c.requires.le_lines.3, c.requires.le_lines.4, omega arith, found_within _ inv.within c.opened-line.ensures.answer); there = lined_items _ _ _ _ _ _ (search rules) inv (search rules) c.opened-line.ensures.answer c.requires.there }
 
-pub take_known-item-requires : goal.take_known-item-requires
-take_known-item-requires c = c.loop-i.invariant.within
+pub take_known-requires : goal.take_known-requires
+take_known-requires c = c.loop-i.invariant.within
 
-pub returns-in_default : goal.returns-in_default
-returns-in_default c =
+pub returns-in_err-q : goal.returns-in_err-q
+returns-in_err-q c =
     let inv = c.loop-i.invariant in
     let e = c.window_excess-e in
     let fits : SFits w64 e.result.value = search rules in
-    let t = c.in_default.is in
-    let stopped = rw (t, to_z-of_z fits) at c.take_known-item.ensures.answer in
+    let stopped = rw (to_z-of_z fits) at c.in_err-q.ensures.answer in
     record {
-      answer = rw (c.place_stop.ensures.answer ∙ ap pass_place t)
+      answer = rw (handed c.from_residual.result _ c.from_residual.ensures.1)
           (compared_stopped _ _ _ _ _ _ _ _ (search rules) c.requires.there inv (search rules) c.opened-line.ensures.answer e.ensures.answer c.item_end.ensures.answer stopped);
     }
 
@@ -46,7 +44,7 @@ loop-i-preserved c =
     let inv = c.loop-i.invariant in
     let e = c.window_excess-e in
     let fits : SFits w64 e.result.value = search rules in
-    let found = rw (c.in-Past.is, to_z-of_z fits) at c.take_known-item.ensures.answer in
+    let found = rw (c.in_ok-q.was, to_z-of_z fits) at c.take_known.ensures.answer in
     compared_more _ _ _ _ _ _ _ _ (search rules) c.requires.there inv (search rules) c.opened-line.ensures.answer e.ensures.answer c.item_end.ensures.answer found.1
 
 pub returns : goal.returns

@@ -2,7 +2,6 @@
 use mathlib.Core.Path.{sym, subst}
 use Prim.Native.Nat.{ℕ, ◌^◌, ◌+◌}
 use native.Mathlib.Omega.{arith}
-use native.Mathlib.Nat.{not-le_of_lt}
 use lib.Dec.{T}
 use lib.ListN.{get_or}
 use lib.Ieee.{Float, binary32, nan}
@@ -13,31 +12,15 @@ use Rattle.finite_f32.proofs.Lanes.{times_flag, times_zero, times_back, small_fi
 use Rattle.finite_f32.specs.Scan.{is_zero_value, flag}
 use Rattle.finite_f32.proofs.samples.rest.Goals as goal
 
-pub loop-x-init : goal.loop-x-init
-loop-x-init c = (omega arith, c.requires.0, (λ z. z), (λ z t p k. absurd (not-le_of_lt k p)), (λ z f. z), omega arith)
-
-pub overflow_add-at : goal.overflow_add-at
-overflow_add-at c = omega (arith, c.requires.1)
-
-pub offset_bounds-src-at : goal.offset_bounds-src-at
-offset_bounds-src-at c = omega (arith, c.requires.1)
-
-pub bounds-src-at : goal.bounds-src-at
-bounds-src-at c = omega (arith, c.requires.1)
-
 pub loop-x-preserved : goal.loop-x-preserved
 loop-x-preserved c =
     let a = c.args in
     let v = get_or a.src.now (a.at + c.loop-x.x) nan in
     let e = c.zero_step-z.ensures.value in
-    let b : T (is_zero_value c.zero_step-z.result) → T (is_zero_value c.loop-x.z) × T (finite v) = λ h. times_back binary32 c.loop-x.z v c.loop-x.invariant.1 (subst (λ (z : Float). T (is_zero_value z)) e h) in (
-      omega arith,
-      subst (λ (z : Float). T (flag z)) (sym e) (times_flag binary32 c.loop-x.z v c.loop-x.invariant.1),
-      (λ h. c.loop-x.invariant.2 (b h).0),
-      (λ h. from_more (λ (t : ℕ). AtMost (get_or a.src.now (a.at + t) nan) (2 ^ 128)) a.from c.loop-x.x (c.loop-x.invariant.3 (b h).0) (small_finite v c.zero_step-z.ensures.t (b h).1)),
-      (λ h f. subst (λ (z : Float). T (is_zero_value z)) (sym e) (times_zero binary32 c.loop-x.z v (c.loop-x.invariant.4 h (λ t p k. f t p (omega arith))) (f c.loop-x.x (omega arith) (omega arith)))),
+    let b : T (is_zero_value c.zero_step-z.result) → T (is_zero_value c.loop-x.z) × T (finite v) = λ h. times_back binary32 c.loop-x.z v c.loop-x.invariant.0 (subst (λ (z : Float). T (is_zero_value z)) e h) in (
+      subst (λ (z : Float). T (flag z)) (sym e) (times_flag binary32 c.loop-x.z v c.loop-x.invariant.0),
+      (λ h. c.loop-x.invariant.1 (b h).0),
+      (λ h. from_more (λ (t : ℕ). AtMost (get_or a.src.now (a.at + t) nan) (2 ^ 128)) a.from c.loop-x.x (c.loop-x.invariant.2 (b h).0) (small_finite v c.zero_step-z.ensures.t (b h).1)),
+      (λ h f. subst (λ (z : Float). T (is_zero_value z)) (sym e) (times_zero binary32 c.loop-x.z v (c.loop-x.invariant.3 h (λ t p k. f t p (omega arith))) (f c.loop-x.x (omega arith) (omega arith)))),
       omega arith,
     )
-
-pub returns : goal.returns
-returns c = record { t = (c.loop-x.invariant.1, c.loop-x.invariant.2); small = (λ h t p k. c.loop-x.invariant.3 h t p (omega arith)); t_2 = (λ h f. c.loop-x.invariant.4 h (λ t p k. f t p (omega arith))) }

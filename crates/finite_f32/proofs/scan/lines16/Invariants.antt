@@ -6,13 +6,9 @@ use Rattle.finite_f32.specs.Scan.{Zeros, Flags, Small, Finite}
 use Rattle.finite_f32.proofs.scan.lines16.Given as goal
 
 abbrev pub invariant-loop-y : goal.invariant-loop-y
-invariant-loop-y l = (l.from ≤ l.y)
-    × (length l.zz ≡ 16)
+invariant-loop-y l = (length l.zz ≡ 16)
     × Flags 16 l.zz
     × (Zeros 16 l.zz → Zeros 16 l.initial.zz)
     × (Zeros 16 l.zz → (x : ℕ) → l.from ≤ x → x < l.y → Small l.src (x * l.row + l.first) 0 (l.n * 16))
     × (Zeros 16 l.initial.zz → ((x : ℕ) → l.from ≤ x → x < l.y → Finite l.src (x * l.row + l.first) 0 (l.n * 16)) → Zeros 16 l.zz)
     × (l.y - l.to ≤ l.from - l.to)
-
-abbrev pub decreases-loop-y : goal.decreases-loop-y
-decreases-loop-y l = l.to - l.y

@@ -6,10 +6,10 @@ use Rattle.finite_f32.proofs.written.sixteen.Goals as goal
 pub returns : goal.returns
 returns c =
     let a = c.args in
-    let w = c.zero4-a in
-    let x = c.zero4-b in
-    let y = c.zero4-c in
-    let z = c.zero4 in
+    let w = c.zero_steps-a in
+    let x = c.zero_steps-b in
+    let y = c.zero_steps-c in
+    let z = c.zero_steps in
     let ys = a.ys in
     let fw = lane_flag 4 a.zz w.result ys 0 w.ensures.made c.requires.1 in
     let fx = lane_flag 4 w.result x.result ys 4 x.ensures.made fw in

@@ -11,7 +11,7 @@ use Rattle.line_weights.proofs.weights.lead.Goals as goal
 
 pub loop-x-init : goal.loop-x-init
 unfolding lead_of
-loop-x-init c = refl
+loop-x-init c = (omega arith, refl)
 
 pub returns-then-not-w : goal.returns-then-not-w
 returns-then-not-w c =
@@ -19,7 +19,7 @@ returns-then-not-w c =
     let here : weighs args.f args.c args.recip c.loop-x.x ≡ true = rw (← c.line_weight-w.ensures.answer) (ap not c.if-not-w.true) in
     record {
       answer = (
-        sym (c.loop-x.invariant ∙ first_stop (weighs args.f args.c args.recip) c.loop-x.x (args.stop.0 - c.loop-x.x) (omega arith) here),
+        sym (c.loop-x.invariant.1 ∙ first_stop (weighs args.f args.c args.recip) c.loop-x.x (args.stop.0 - c.loop-x.x) (omega arith) here),
         c.line_weight-w.ensures.answer ∙ rw (first_weight_fact args.f args.c args.recip c.loop-x.x (args.stop.0 - c.loop-x.x) (omega arith), add-zero),
       );
     }
@@ -29,11 +29,12 @@ loop-x-preserved c =
     let args = c.args in
     let here : weighs args.f args.c args.recip c.loop-x.x ≡ false = rw (← c.line_weight-w.ensures.answer) (ap not c.if-not-w.false) in
     let left : args.stop.0 - c.loop-x.x - 1 ≡ args.stop.0 - (c.loop-x.x + 1) = omega arith in
-    c.loop-x.invariant ∙ first_on (weighs args.f args.c args.recip) c.loop-x.x (args.stop.0 - c.loop-x.x) (omega arith) here ∙ rw left
+    (omega arith, c.loop-x.invariant.1 ∙ first_on (weighs args.f args.c args.recip) c.loop-x.x (args.stop.0 - c.loop-x.x) (omega arith) here ∙ rw left)
 
 pub returns : goal.returns
 unfolding first_weight
 returns c =
     let args = c.args in
     let none : args.stop.0 - c.loop-x.x ≡ 0 = omega arith in
-    record { answer = (sym (c.loop-x.invariant ∙ rw none), rw none) }
+    let end : c.max.result ≡ c.loop-x.x = omega (arith, c.max.ensures) in
+    rw end (record { answer = (sym (c.loop-x.invariant.1 ∙ rw none), rw none) })

@@ -1,5 +1,5 @@
 -- `weights::weigh`: the goals that the check leaves; the argument stands in Invariants.antt. Assumes nothing.
-use Prim.Native.Nat.{ℕ, ◌<◌, ◌+◌}
+use Prim.Native.Nat.{ℕ, ◌<◌}
 use mathlib.Core.Path.{◌≡◌, refl, sym, ◌∙◌, ap}
 use mathlib.Core.List.{List}
 use native.Mathlib.Nat.{le_refl}
@@ -9,7 +9,7 @@ use Rattle.lists.specs.Tab.{front}
 use Rattle.lists.proofs.TabLaws.{Written, written_none, written_more, front_none, front_over}
 use Rattle.lists.proofs.TurnLaws.{turns_more}
 use Rattle.floats.specs.Doubles.{zero64, ◌plus◌}
-use Rattle.line_weights.specs.Weights.{weight_from, add_to, total_of, line_weight_value}
+use Rattle.line_weights.specs.Weights.{weight_from, add_to, total_of}
 use Rattle.line_weights.proofs.WeightLaws.{first_weight_fact}
 use borrow.Author.Rules.{rules}
 use native.Mathlib.Omega.{arith}
@@ -35,31 +35,28 @@ pub loop-k-init : goal.loop-k-init
 loop-k-init c =
     let known : c.args.a.weight ≡ weight_from c.args.f c.args.c c.args.recip c.args.a.line.0 0 = c.requires.2 ∙ first_weight_fact c.args.f c.args.c c.args.recip c.args.a.line.0 c.args.n (omega arith) in
     let args = c.args in
-    (omega arith, refl, ap (λ (w : Float). zero64 plus w) known, written_one _ args.row.now args.a.weight (omega arith) known)
+    (omega arith, ap (λ (w : Float). zero64 plus w) known, written_one _ args.row.now args.a.weight (omega arith) known)
 
 pub bounds-row-k : goal.bounds-row-k
 bounds-row-k c =
     let args = c.args in
-    let long = c.loop-k.invariant.3.long ∙ length-set args.row.now 0 args.a.weight in
+    let long = c.loop-k.invariant.2.long ∙ length-set args.row.now 0 args.a.weight in
     omega (arith, long)
 
 pub loop-k-preserved : goal.loop-k-preserved
 loop-k-preserved c =
     let args = c.args in
-    let next : c.loop-k.x + 1 ≡ args.a.line.0 + c.loop-k.k = c.loop-k.invariant.1 in
-    let is : c.line_weight-w.result ≡ weight_from args.f args.c args.recip args.a.line.0 c.loop-k.k =
-    c.line_weight-w.ensures.answer ∙ ap (line_weight_value args.f args.c args.recip) next in
+    let is : c.line_weight-w.result ≡ weight_from args.f args.c args.recip args.a.line.0 c.loop-k.k = c.line_weight-w.ensures.answer in
     let long = length-set args.row.now 0 args.a.weight in (
       omega arith,
-      omega (arith, next),
-      rw (c.loop-k.invariant.2, is) (turns_more (add_to args.f args.c args.recip args.a.line.0) zero64 c.loop-k.k),
-      written_more c.loop-k.invariant.3 (omega (arith, long)) is,
+      rw (c.loop-k.invariant.1, is) (turns_more (add_to args.f args.c args.recip args.a.line.0) zero64 c.loop-k.k),
+      written_more c.loop-k.invariant.2 (omega (arith, long)) is,
     )
 
 pub shape_of-row : goal.shape_of-row
 shape_of-row c =
     let args = c.args in
-    let long : length c.loop-k.row ≡ length args.row.now = c.loop-k.invariant.3.long ∙ length-set args.row.now 0 args.a.weight in
+    let long : length c.loop-k.row ≡ length args.row.now = c.loop-k.invariant.2.long ∙ length-set args.row.now 0 args.a.weight in
     search (rules, long)
 
 pub returns : goal.returns
@@ -69,5 +66,5 @@ returns c =
     let args = c.args in
     let all : c.loop-k.k ≡ args.n = omega arith in
     let row : c.loop-k.row ≡ front args.n (weight_from args.f args.c args.recip args.a.line.0) args.row.now =
-    c.loop-k.invariant.3.is ∙ rw all (over-one args.n _ args.row.now args.a.weight (omega arith) (omega arith) known) in
-    record { answer = rw (← all) c.loop-k.invariant.2; written = row }
+    c.loop-k.invariant.2.is ∙ rw all (over-one args.n _ args.row.now args.a.weight (omega arith) (omega arith) known) in
+    record { answer = rw (← all) c.loop-k.invariant.1; written = row }

@@ -1,5 +1,5 @@
 -- `weigh` meets its contract: the first weight is known, and the loop has written k weights and added them in line order. Assumes nothing.
-use Prim.Native.Nat.{◌≤◌, ◌-◌, ◌+◌}
+use Prim.Native.Nat.{◌≤◌}
 use mathlib.Core.Path.{◌≡◌}
 use Rattle.lists.specs.Tab.{turns}
 use Rattle.lists.proofs.TabLaws.{Written}
@@ -8,7 +8,4 @@ use Rattle.line_weights.specs.Weights.{weight_from, add_to}
 use Rattle.line_weights.proofs.weights.weigh.Given as goal
 
 abbrev pub invariant-loop-k : goal.invariant-loop-k
-invariant-loop-k l = (l.k ≤ l.n) × (l.x + 1 ≡ l.initial.x + l.k) × (l.total ≡ turns (add_to l.f l.c l.recip l.initial.x) zero64 l.k) × Written l.k (weight_from l.f l.c l.recip l.initial.x) l.initial.row l.row
-
-abbrev pub decreases-loop-k : goal.decreases-loop-k
-decreases-loop-k l = l.n - l.k
+invariant-loop-k l = (l.k ≤ l.n) × (l.total ≡ turns (add_to l.f l.c l.recip l.a.line.0) zero64 l.k) × Written l.k (weight_from l.f l.c l.recip l.a.line.0) l.initial.row l.row

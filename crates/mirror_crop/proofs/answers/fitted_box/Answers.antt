@@ -4,6 +4,6 @@ use lib.Ieee.{of_bits}
 use Rattle.crop_fit.specs.Fit.{box_of}
 use Rattle.mirror_crop.proofs.answers.fitted_box.Goals as goal
 
-pub returns-in-Refused : goal.returns-in-Refused
+pub returns-in-Err : goal.returns-in-Err
 unfolding of_bits
-returns-in-Refused c = record { answer = sym (ap box_of c.in-Refused.is) }
+returns-in-Err c = record { answer = sym (ap box_of c.in-Err.is) }

@@ -18,5 +18,5 @@ returns-in_default c =
 pub returns : goal.returns
 unfolding filter_number filter_weight
 returns c =
-    let one = sym (ap picked_of c.filter_named.ensures.answer) ∙ sym c.pick-picked.ensures.answer ∙ c.in-Is.is in
+    let one = sym (ap picked_of c.filter_named.ensures.answer) ∙ sym c.pick-picked.ensures.answer ∙ c.in-Some.is in
     rw (le-ltb _ _ c.if-filter-gt3.false, one) (record { answer = refl; written = c.value.ensures.answer })

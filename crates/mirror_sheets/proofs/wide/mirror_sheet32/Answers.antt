@@ -12,4 +12,4 @@ returns c =
     let told = rw c.filter_named-kind.ensures.answer at c.write_sheet32-answer.ensures.answer in
     let left = rw c.filter_named-kind.ensures.answer at c.write_sheet32-answer.ensures.written in
     rw (le-ltb _ _ c.if-filter-gt3.false)
-    (record { answer = c.number.ensures.answer ∙ ap number_of told; written = left; written2 = c.sheet_length.ensures.answer ∙ ap length_of told })
+    (record { answer = c.number.ensures.answer ∙ ap number_of told; written = left; written2 = c.unwrap_or.ensures ∙ ap length_of told })

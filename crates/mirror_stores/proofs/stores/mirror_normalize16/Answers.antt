@@ -4,4 +4,4 @@ use Rattle.normalizer.specs.Answer.{number_of, precision_in}
 use Rattle.mirror_stores.proofs.stores.mirror_normalize16.Goals as goal
 
 pub returns : goal.returns
-returns c = record { answer = c.number.ensures.answer ∙ ap number_of c.normalize16-answer.ensures.answer; written = c.normalize16-answer.ensures.written; written2 = c.normalize16-answer.ensures.written2; written3 = c.normalized_precision.ensures.answer ∙ ap precision_in c.normalize16-answer.ensures.answer }
+returns c = record { answer = c.number.ensures.answer ∙ ap number_of c.normalize16-answer.ensures.answer; written = c.normalize16-answer.ensures.written; written2 = c.normalize16-answer.ensures.written2; written3 = c.unwrap_or.ensures ∙ ap precision_in c.normalize16-answer.ensures.answer }

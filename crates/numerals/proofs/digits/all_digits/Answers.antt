@@ -1,12 +1,11 @@
 -- `digits::all_digits`: the goals that the check leaves; the argument stands in Invariants.antt. Assumes nothing.
 use mathlib.Core.Path.{◌≡◌, refl, sym, ap, ◌∙◌}
-use mathlib.Core.Bool.{false, not}
-use Prim.Native.Nat.{ℕ, ◌-◌, ◌+◌, ◌≤◌}
+use mathlib.Core.Bool.{not}
+use Prim.Native.Nat.{◌+◌}
 use native.Mathlib.Omega.{arith}
 use lib.ListN.{get_or}
 use borrow.Author.Rules.{rules}
 use borrow.Author.Tests.{le-leb, lt-leb}
-use Rattle.lists.specs.Tab.{any}
 use Rattle.lists.proofs.AnyLaws.{any_on}
 use Rattle.numerals.specs.Digits.{digit_of, alien, digits}
 use Rattle.numerals.proofs.DigitLaws.{any_some}

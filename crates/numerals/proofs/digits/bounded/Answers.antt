@@ -1,14 +1,11 @@
 -- `digits::bounded`: the goals that the check leaves; the argument stands in Invariants.antt. Assumes nothing.
-use mathlib.Core.Path.{◌≡◌, refl, sym, ap, ◌∙◌}
-use mathlib.Core.Bool.{false}
-use Prim.Native.Nat.{ℕ, ◌-◌, ◌+◌, ◌*◌, ◌≤◌, ◌<◌}
+use mathlib.Core.Path.{◌≡◌, refl, sym, ◌∙◌}
+use Prim.Native.Nat.{◌-◌, ◌+◌, ◌*◌, ◌≤◌}
 use native.Mathlib.Nat.{lt_of_lt_of_le}
 use native.Mathlib.Omega.{arith}
-use lib.ListN.{get_or}
-use lib.Dec.{ltb}
 use borrow.Author.Rules.{rules}
 use borrow.Author.Tests.{lt-ltb, le-ltb, ltb-true, ltb-false}
-use Rattle.numerals.specs.Digits.{figure, numeral}
+use Rattle.numerals.specs.Digits.{numeral}
 use Rattle.numerals.proofs.DigitLaws.{numeral_more, numeral_grows}
 use Rattle.numerals.proofs.digits.bounded.Goals as goal
 

@@ -4,7 +4,6 @@ use mathlib.Core.List.{List}
 use Prim.Native.Nat.{ℕ, ◌+◌, ◌≤◌}
 use native.Mathlib.Omega.{arith}
 use lib.ListN.{length, get_or, get_or-eq_default}
-use borrow.Author.Rules.{rules}
 use Rattle.numerals.proofs.digits.byte_at.Goals as goal
 
 past : (l : List ℕ) (n : ℕ) → length l ≤ n → 0 ≡ get_or l n 0

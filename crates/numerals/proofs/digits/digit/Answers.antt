@@ -1,5 +1,4 @@
 -- The tests are those of the definition, in its order. Assumes nothing.
-use borrow.Author.Rules.{rules}
 use borrow.Author.Tests.{lt-ltb, le-ltb, le-leb, lt-leb}
 use Rattle.numerals.specs.Digits.{digit_of}
 use Rattle.numerals.proofs.digits.digit.Goals as goal

@@ -1,7 +1,6 @@
 -- The test is the definition's. Assumes nothing.
 use borrow.Author.Tests.{lt-ltb, le-ltb}
 use Rattle.numerals.specs.Digits.{figure}
-use borrow.Author.Rules.{rules}
 use Rattle.numerals.proofs.digits.figure.Goals as goal
 
 pub returns-then-d-base : goal.returns-then-d-base

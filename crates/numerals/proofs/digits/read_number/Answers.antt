@@ -6,7 +6,7 @@ use Prim.Native.Nat.{ℕ, ◌+◌, ◌<◌}
 use lib.ListN.{get_or}
 use native.Mathlib.Omega.{arith}
 use borrow.Author.Rules.{rules}
-use borrow.Author.Tests.{eq-eqb, ne_eqb, le-leb, not-true, not-false}
+use borrow.Author.Tests.{eq-eqb, ne_eqb, le-leb}
 use Rattle.numerals.specs.Digits.{digit_of, alien, digits, number_of}
 use Rattle.numerals.proofs.DigitLaws.{any_some}
 use Rattle.numerals.proofs.digits.read_number.Goals as goal

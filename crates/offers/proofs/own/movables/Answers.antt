@@ -1,51 +1,30 @@
 -- `own::movables`: the goals that the check leaves; the argument stands in Invariants.antt. Assumes nothing.
-use mathlib.Core.Path.{◌≡◌, refl, ◌∙◌}
-use Prim.Native.Nat.{◌^◌, ◌<◌}
+use mathlib.Core.Path.{◌∙◌}
+use Prim.Native.Nat.{◌+◌, ◌-◌}
 use native.Mathlib.Omega.{arith}
-use lib.ListN.{length}
-use mir.Facts.{to_z-of_z}
+use lib.IntN.{pos}
 use mir.Syntax.{w64}
 use mir.Val.{to_z, of_z}
-use borrow.Author.Rules.{rules}
-use Rattle.windows.specs.Set.{lent}
+use Rattle.windows.proofs.WeightLaws.{value_in}
 use Rattle.excesses.specs.Slots.{slot_from}
-use Rattle.excesses.proofs.SumLaws.{back, lent_long}
+use Rattle.excesses.proofs.SumLaws.{back}
 use Rattle.offers.specs.Own.{movable}
-use Rattle.offers.proofs.StepLaws.{can_is, count_turn, step_size, count_room}
+use Rattle.offers.proofs.StepLaws.{can_is, count_turn, count_room, one_small}
 use Rattle.offers.proofs.own.movables.Goals as goal
 
-pub overflow_add-a : goal.overflow_add-a
-overflow_add-a c =
+pub overflow_add-c : goal.overflow_add-c
+overflow_add-c g c =
     let a = c.args in
-    let some : length (lent a.wide a.short.now a.long.now) < 2 ^ 64 = lent_long a.wide a.short.now a.long.now (search rules) (search rules) in
-    search rules
+    let t = movable a.limit (to_z w64 (of_z w64 a.e)) (slot_from (g.W.Weight.values a.weights.now) a.a) in
+    record { fits = omega (arith, count_room t c.loop-weight.weight-index a.n c.loop-weight.invariant.1 (omega arith), one_small c.can_go.result, c.from-c.ensures, c.ranges.n.fits) }
 
-pub can_go-requires : goal.can_go-requires
-can_go-requires c = (
-  c.requires.0,
-  rw (back c.weight_at.type_inv) c.weight_at.ensures.answer.1,
-  step_size (to_z w64 (of_z w64 c.args.e)) (back c.way-s.type_inv ∙ c.way-s.ensures.answer),
-)
-
-pub tally-c-requires : goal.tally-c-requires
-tally-c-requires c =
+pub loop-weight-preserved : goal.loop-weight-preserved
+loop-weight-preserved g c =
     let a = c.args in
-    let t = movable a.limit (to_z w64 (of_z w64 a.e)) (slot_from (lent a.wide a.short.now a.long.now) a.a) in
-    omega (arith, count_room t c.loop-k.k a.n c.loop-k.invariant.1 c.loop-k-test.true, c.ranges.n.fits)
-
-pub loop-k-preserved : goal.loop-k-preserved
-loop-k-preserved c =
-    let a = c.args in
+    let k = c.loop-weight.weight-index in
+    let limit = a.limit in
     let e = to_z w64 (of_z w64 a.e) in
-    let w = slot_from (lent a.wide a.short.now a.long.now) a.a in
-    let read = c.weight_at in
-    let can = can_is a.limit e w c.loop-k.k c.can_go.ensures.answer (back read.type_inv ∙ read.ensures.answer.0) (back c.way-s.type_inv ∙ c.way-s.ensures.answer) in
-    (omega arith, count_turn (movable a.limit e w) c.loop-k.k c.tally-c.ensures.answer c.loop-k.invariant.1 can)
-
-pub returns : goal.returns
-returns c =
-    let all : c.loop-k.k ≡ c.args.n = omega arith in
-    record { answer = rw (← to_z-of_z c.ranges.e, ← all) c.loop-k.invariant.1 }
-
-pub loop-k-init : goal.loop-k-init
-loop-k-init c = (omega arith, refl)
+    let w = slot_from (g.W.Weight.values a.weights.now) a.a in
+    let read = back c.number.type_inv ∙ c.number.ensures.answer ∙ value_in g.met.W.Weight.each a.weights.now a.a (a.a + a.n - a.a) k c.weight-item.result (pos 0) c.weight-item.is c.loop-weight-test.true in
+    let can = can_is limit e w k c.can_go.ensures.answer read (back c.way-s.type_inv ∙ c.way-s.ensures.answer) in
+    (omega arith, count_turn (movable limit e w) k c.from-c.ensures c.loop-weight.invariant.1 can)

@@ -1,12 +1,7 @@
 -- After t turns the first t samples are made. Assumes nothing.
-use Prim.Native.Nat.{◌-◌, ◌≤◌}
-use lib.ListN.{length}
 use Rattle.lists.proofs.TabLaws.{Written}
 use Rattle.row_u16.specs.Chunks.{cut_at}
 use Rattle.pixels_u16.proofs.blocks.round_all.Given as goal
 
 abbrev pub invariant-loop-t : goal.invariant-loop-t
-invariant-loop-t l = (l.t ≤ length l.initial.samples) × Written l.t (cut_at l.ss l.top l.big) l.initial.samples l.samples
-
-abbrev pub decreases-loop-t : goal.decreases-loop-t
-decreases-loop-t l = length l.initial.samples - l.t
+invariant-loop-t l = Written l.t (cut_at l.ss l.top l.big) l.initial.samples l.samples

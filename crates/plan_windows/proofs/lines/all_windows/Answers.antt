@@ -109,4 +109,4 @@ returns c =
     let place : first_blank p ≡ c.loop-k.k = c.loop-k.invariant.5 ∙ rw none in
     let done : first_blank p ≡ p.output = place ∙ all in
     let whole : c.loop-k.a ≡ p.output * p.window = c.loop-k.invariant.1 ∙ ap (λ (x : ℕ). x * p.window) all in
-    record { answer = sym place; written = c.loop-k.invariant.2.is ∙ ap (λ (x : ℕ). front x (grid p.window (slot p)) c.args.weights.now) whole ∙ or_zero_done p _ _ done; written2 = c.loop-k.invariant.3.is ∙ ap (λ (x : ℕ). front x (lead p) c.args.starts.now) all ∙ or_zero_done p _ _ done; written3 = c.loop-k.invariant.4.is ∙ ap (λ (x : ℕ). front x (size p) c.args.sizes.now) all ∙ or_zero_done p _ _ done }
+    record { answer = sym done; written = c.loop-k.invariant.2.is ∙ ap (λ (x : ℕ). front x (grid p.window (slot p)) c.args.weights.now) whole ∙ or_zero_done p _ _ done; written2 = c.loop-k.invariant.3.is ∙ ap (λ (x : ℕ). front x (lead p) c.args.starts.now) all ∙ or_zero_done p _ _ done; written3 = c.loop-k.invariant.4.is ∙ ap (λ (x : ℕ). front x (size p) c.args.sizes.now) all ∙ or_zero_done p _ _ done }

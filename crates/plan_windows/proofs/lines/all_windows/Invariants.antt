@@ -9,6 +9,3 @@ use Rattle.plan_windows.proofs.lines.all_windows.Given as goal
 
 abbrev pub invariant-loop-k : goal.invariant-loop-k
 invariant-loop-k l = (l.k ≤ l.n) × (l.a ≡ l.k * l.w) × Written l.a (grid l.p.window (slot l.p)) l.initial.weights l.weights × Written l.k (lead l.p) l.initial.starts l.starts × Written l.k (size l.p) l.initial.sizes l.sizes × (first_blank l.p ≡ first (blank l.p) l.k (l.n - l.k))
-
-abbrev pub decreases-loop-k : goal.decreases-loop-k
-decreases-loop-k l = l.n - l.k

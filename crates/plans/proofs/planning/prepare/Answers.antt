@@ -5,12 +5,12 @@ use Rattle.plans.proofs.planning.prepare.Goals as goal
 
 pub returns-in_default : goal.returns-in_default
 unfolding plan_of
-returns-in_default c = record { answer = ap (plan_by c.args.request) (sym c.in_default.is ∙ c.pick-picked.ensures.answer) }
+returns-in_default c = record { answer = ap (plan_by c.args.request) (sym c.in_default.is ∙ c.pick.ensures.answer) }
 
 pub returns : goal.returns
 unfolding plan_of
 returns c =
     record {
       answer = c.plan_with.ensures.answer
-          ∙ ap (plan_by c.args.request) (sym c.in-Is.is ∙ c.pick-picked.ensures.answer);
+          ∙ ap (plan_by c.args.request) (sym c.in-Some.is ∙ c.pick.ensures.answer);
     }

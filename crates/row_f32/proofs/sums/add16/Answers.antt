@@ -1,10 +1,9 @@
 -- `sums::add16`: the goals that the check leaves; the argument stands in Invariants.antt. Assumes nothing.
-use mathlib.Core.Path.{◌≡◌, ◌∙◌, refl}
+use mathlib.Core.Path.{◌≡◌, ◌∙◌}
 use mathlib.Core.Bool.{not}
 use mathlib.Core.List.{List}
 use Prim.Native.Nat.{ℕ, ◌^◌, ◌<◌, ◌+◌, ◌*◌}
 use native.Mathlib.Omega.{arith}
-use native.Mathlib.Nat.{not-suc-le-zero}
 use lib.Dec.{T}
 use lib.ListN.{length, get_or, length-set}
 use lib.Ieee.{Float, nan, is_nan}
@@ -20,27 +19,6 @@ number ws src at row k t g h l = bounded_number (get_or src (at + k * row + t) n
 swap : (A K t : ℕ) → A + K + t ≡ A + t + K
 swap A K t = omega arith
 
-pub overflow_mul-at : goal.overflow_mul-at
-overflow_mul-at c = omega (arith, c.requires.summable.there c.args.k c.requires.k_in_bounds)
-
-pub overflow_add-at : goal.overflow_add-at
-overflow_add-at c = omega (arith, c.requires.summable.there c.args.k c.requires.k_in_bounds)
-
-pub loop-t-init : goal.loop-t-init
-loop-t-init c = (omega arith, c.requires.sums16.0, (λ x h. absurd (not-suc-le-zero h)), (λ x h. refl))
-
-pub overflow_add-at-in-loop-t : goal.overflow_add-at-in-loop-t
-overflow_add-at-in-loop-t c =
-    omega (arith, c.requires.summable.there c.args.k c.requires.k_in_bounds)
-
-pub offset_bounds-src-at : goal.offset_bounds-src-at
-offset_bounds-src-at c =
-    omega (arith, c.requires.summable.there c.args.k c.requires.k_in_bounds)
-
-pub bounds-src-at : goal.bounds-src-at
-bounds-src-at c =
-    omega (arith, c.requires.summable.there c.args.k c.requires.k_in_bounds)
-
 pub step-requires : goal.step-requires
 step-requires c =
     number c.args.ws.now c.args.src.now c.args.at0 c.args.row c.args.k c.loop-t.t c.requires.summable c.requires.k_in_bounds (omega arith)
@@ -48,8 +26,7 @@ step-requires c =
 pub loop-t-preserved : goal.loop-t-preserved
 loop-t-preserved c =
     let a = c.args in (
-      omega arith,
-      simp length-set c.loop-t.invariant.1,
+      simp length-set c.loop-t.invariant.0,
       set_below
           c.loop-t.r
           c.loop-t.t
@@ -65,11 +42,8 @@ loop-t-preserved c =
           a.k
           (a.at0 + a.k * a.row + c.loop-t.t)
           c.step.ensures
-          (c.loop-t.invariant.3 c.loop-t.t (omega arith) ∙ c.requires.sums16.1 c.loop-t.t (omega arith))
+          (c.loop-t.invariant.2 c.loop-t.t (omega arith) ∙ c.requires.sums16.1 c.loop-t.t (omega arith))
           (swap a.at0 (a.k * a.row) c.loop-t.t))
-          c.loop-t.invariant.2,
-      set_above c.loop-t.r c.loop-t.t _ nan (λ (x : ℕ). get_or a.ss x nan) c.loop-t.invariant.3,
+          c.loop-t.invariant.1,
+      set_above c.loop-t.r c.loop-t.t _ nan (λ (x : ℕ). get_or a.ss x nan) c.loop-t.invariant.2,
     )
-
-pub returns : goal.returns
-returns c = (c.loop-t.invariant.1, λ t h. c.loop-t.invariant.2 t (omega arith))

@@ -11,14 +11,14 @@ use Rattle.vertical.proofs.ReadBack.{back64 as back}
 use Rattle.row_u16.proofs.columns.put_columns.Goals as goal
 
 pub loop-t-init : goal.loop-t-init
-loop-t-init c = (omega arith, written_none)
+loop-t-init c = written_none
 
 pub loop-t-preserved : goal.loop-t-preserved
 loop-t-preserved c =
-    (search rules, written_more c.loop-t.invariant.1 (search rules) (c.clip.ensures ∙ rw (back c.clip-arg-1.given) refl))
+    written_more c.loop-t.invariant (search rules) (c.clip.ensures ∙ rw (back c.clip-arg-1.given) refl)
 
 pub returns : goal.returns
 returns c =
     let a = c.args in
-    let all : c.loop-t.t ≡ length a.out.now = omega (arith, c.loop-t.invariant.1.long) in
-    c.loop-t.invariant.1.is ∙ ap (λ (n : ℕ). front n (clipped_at 65535 a.ss.now a.p) a.out.now) all ∙ front_whole (clipped_at 65535 a.ss.now a.p) a.out.now
+    let all : c.loop-t.t ≡ length a.out.now = omega (arith, c.loop-t.invariant.long) in
+    c.loop-t.invariant.is ∙ ap (λ (n : ℕ). front n (clipped_at 65535 a.ss.now a.p) a.out.now) all ∙ front_whole (clipped_at 65535 a.ss.now a.p) a.out.now

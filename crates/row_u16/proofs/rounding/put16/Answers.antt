@@ -10,20 +10,17 @@ use Rattle.row_u16.specs.Chunks.{cut_at}
 use Rattle.row_u16.proofs.rounding.put16.Goals as goal
 
 pub loop-t-init : goal.loop-t-init
-loop-t-init c = (omega arith, written_none)
-
-pub cut-requires : goal.cut-requires
-cut-requires c = c.requires.by_index c.loop-t.t (omega (arith, c.loop-t.invariant.1.long, c.requires.out_len))
+loop-t-init c = written_none
 
 pub loop-t-preserved : goal.loop-t-preserved
 loop-t-preserved c =
-    (search rules, written_more c.loop-t.invariant.1 (search rules) c.cut.ensures.answer)
+    written_more c.loop-t.invariant (search rules) c.cut.ensures.answer
 
 pub returns : goal.returns
 returns c =
     let a = c.args in
-    let all : c.loop-t.t ≡ length a.out.now = omega (arith, c.loop-t.invariant.1.long) in
-    c.loop-t.invariant.1.is
+    let all : c.loop-t.t ≡ length a.out.now = omega (arith, c.loop-t.invariant.long) in
+    c.loop-t.invariant.is
     ∙ ap (λ (n : ℕ). front n (cut_at a.ss a.top a.big) a.out.now) all
     ∙ front_whole (cut_at a.ss a.top a.big) a.out.now
     ∙ ap (λ (n : ℕ). tab 0 n (cut_at a.ss a.top a.big)) c.requires.out_len

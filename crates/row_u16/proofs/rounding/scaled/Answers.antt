@@ -1,10 +1,10 @@
 -- The pattern stays below the infinity's. Assumes nothing.
-use mathlib.Core.Path.{◌≡◌, ap}
+use mathlib.Core.Path.{◌≡◌}
 use mathlib.Core.Bool.{not}
 use Prim.Native.Nat.{ℕ, ◌+◌, ◌*◌, ◌^◌, ◌≤◌}
 use native.Mathlib.Omega.{arith}
 use lib.Dec.{T}
-use lib.Ieee.{binary64, of_bits, nan_bits}
+use lib.Ieee.{binary64, nan_bits}
 use Rattle.floats.proofs.Codes.{no_nan_code}
 use Rattle.row_u16.proofs.rounding.scaled.Goals as goal
 
@@ -13,6 +13,3 @@ number b p {q} h l e = no_nan_code binary64 (b + q * 2 ^ 52) (omega arith)
 
 pub float_from_bits-result : goal.float_from_bits-result
 float_from_bits-result c = number c.args.b c.args.p c.requires.0 c.requires.1 c.wide.ensures
-
-pub returns : goal.returns
-returns c = record { answer = ap (λ (q : ℕ). of_bits binary64 (c.args.b + q * 2 ^ 52)) c.wide.ensures }

@@ -15,24 +15,17 @@ use Rattle.row_u16.proofs.Parts.{not_yet}
 use Rattle.row_u16.proofs.sums.add_line.Goals as goal
 
 pub loop-t-init : goal.loop-t-init
-loop-t-init c = (omega arith, written_none)
-
-pub bounds-src-at : goal.bounds-src-at
-bounds-src-at c =
-    omega (arith, c.loop-t.invariant.1.long, c.requires.ss_in_bounds)
+loop-t-init c = written_none
 
 pub step-requires : goal.step-requires
 step-requires c =
-    rw (back c.step-arg-1.given, not_yet (pos 0) c.loop-t.invariant.1) (c.requires.by_index c.loop-t.t (omega (arith, c.loop-t.invariant.1.long)))
+    rw (back c.step-arg-1.given, not_yet (pos 0) c.loop-t.invariant) (c.requires.by_index c.loop-t.t (omega (arith, c.loop-t.invariant.long)))
 
 pub loop-t-preserved : goal.loop-t-preserved
-loop-t-preserved c = (
-  omega (arith, c.loop-t.invariant.1.long),
-  written_more c.loop-t.invariant.1 (omega (arith, c.loop-t.invariant.1.long)) (back c.step.type_inv ∙ (c.step.ensures.answer ∙ rw (back c.step-arg-1.given, not_yet (pos 0) c.loop-t.invariant.1) refl)),
-)
+loop-t-preserved c = written_more c.loop-t.invariant (omega (arith, c.loop-t.invariant.long)) (back c.step.type_inv ∙ (c.step.ensures.answer ∙ rw (back c.step-arg-1.given, not_yet (pos 0) c.loop-t.invariant) refl))
 
 pub returns : goal.returns
 returns c =
     let f = step_at c.args.ss.now (to_z w32 (of_z w32 c.args.w)) c.args.src.now c.args.at in
-    let all : c.loop-t.t ≡ length c.args.ss.now = omega (arith, c.loop-t.invariant.1.long) in
-    rw (← to_z-of_z c.ranges.w) (c.loop-t.invariant.1.is ∙ ap (λ (n : ℕ). front n f c.args.ss.now) all ∙ front_whole f c.args.ss.now)
+    let all : c.loop-t.t ≡ length c.args.ss.now = omega (arith, c.loop-t.invariant.long) in
+    rw (← to_z-of_z c.ranges.w) (c.loop-t.invariant.is ∙ ap (λ (n : ℕ). front n f c.args.ss.now) all ∙ front_whole f c.args.ss.now)

@@ -2,18 +2,8 @@
 use mathlib.Core.Path.{◌∙◌}
 use mir.Facts.{to_z-of_z}
 use Rattle.vertical.proofs.ReadBack.{back32 as back}
-use Rattle.row_u8.proofs.Sizes.{product_fits, step_fits, step_is}
+use Rattle.row_u8.proofs.Sizes.{step_fits, step_is}
 use Rattle.row_u8.proofs.arithmetic.step.Goals as goal
-
-pub overflow_mul-result : goal.overflow_mul-result
-overflow_mul-result c =
-    product_fits
-    (to_z-of_z c.ranges.acc)
-    (back c.wide16.type_inv ∙ c.wide16.ensures ∙ to_z-of_z c.ranges.w)
-    (back c.wide8.type_inv ∙ c.wide8.ensures)
-    c.requires
-    c.ranges.w.sfits
-    c.ranges.s.fits
 
 pub overflow_add-result : goal.overflow_add-result
 overflow_add-result c =

@@ -11,15 +11,15 @@ use Rattle.vertical.proofs.ReadBack.{back32 as back}
 use Rattle.row_u8.proofs.columns.put32.Goals as goal
 
 pub loop-t-init : goal.loop-t-init
-loop-t-init c = (omega arith, written_none)
+loop-t-init c = written_none
 
 pub loop-t-preserved : goal.loop-t-preserved
 loop-t-preserved c =
-    (search rules, written_more c.loop-t.invariant.1 (search rules) (c.clip.ensures ∙ rw (back c.clip-arg-1.given) refl))
+    written_more c.loop-t.invariant (search rules) (c.clip.ensures ∙ rw (back c.clip-arg-1.given) refl)
 
 pub returns : goal.returns
 returns c =
     let old = c.args.out.now in
-    let all : c.loop-t.t ≡ length old = omega (arith, c.loop-t.invariant.1.long) in
-    c.loop-t.invariant.1.is ∙ ap (λ (n : ℕ). front n (clipped_at 255 c.args.ss c.args.p) old) all ∙ front_whole (clipped_at 255 c.args.ss c.args.p) old
+    let all : c.loop-t.t ≡ length old = omega (arith, c.loop-t.invariant.long) in
+    c.loop-t.invariant.is ∙ ap (λ (n : ℕ). front n (clipped_at 255 c.args.ss c.args.p) old) all ∙ front_whole (clipped_at 255 c.args.ss c.args.p) old
     ∙ ap (λ (n : ℕ). tab 0 n (clipped_at 255 c.args.ss c.args.p)) c.requires.out_len

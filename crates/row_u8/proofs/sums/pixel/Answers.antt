@@ -5,9 +5,6 @@ use Rattle.vertical.proofs.ReadBack.{back32 as back}
 use Rattle.vertical.proofs.ColumnLaws.{column_is}
 use Rattle.row_u8.proofs.sums.pixel.Goals as goal
 
-pub sum-requires : goal.sum-requires
-sum-requires c = record { ws_bound = rw (back c.half.type_inv ∙ c.half.ensures) c.requires.ws_bound; row_bound = c.requires.row_bound; by_index = c.requires.by_index }
-
 pub returns : goal.returns
 returns c =
     let h = c.half in

@@ -2,7 +2,7 @@
 use mathlib.Core.Bool.{not}
 use mathlib.Core.Path.{◌≡◌, sym, ap, ◌∙◌}
 use Prim.Native.Nat.{◌-◌}
-use lib.ListN.{get_or}
+use lib.ListN.{length, get_or}
 use Rattle.scan.proofs.TakeLaws.{reading_more, reading_found, reading_stopped, reading_ended, not_both, told_yes, told_no}
 use Rattle.scan.proofs.NumberLaws.{digits_none, goes_first, goes_high}
 use Rattle.scan.specs.Number.{NextDigit}
@@ -110,6 +110,6 @@ loop-p-preserved c =
 
 pub returns : goal.returns
 returns c =
-    let args = c.args in
     let pre = c.requires in
-    record { answer = reading_ended _ _ _ _ _ _ _ c.loop-p.invariant (omega arith) (search rules) }
+    let last : c.loop-p.p ≡ length c.args.text.now = omega arith in
+    record { answer = rw (← last) (reading_ended _ _ _ _ _ _ _ c.loop-p.invariant (omega arith) (omega arith)) }

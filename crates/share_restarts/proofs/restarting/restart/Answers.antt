@@ -1,4 +1,4 @@
--- `restarting::restart` meets its contract: each refusal is a rung of `restarted_of`; else the numbers are cleared and the shares written (`new_numbers`). Assumes nothing.
+-- `restarting::restart` meets its contract: each refusal is a rung of `restarted_of`; else the numbers are all made 0 and the shares written (`new_numbers`). Assumes nothing.
 use mathlib.Core.Path.{◌∙◌, sym, refl}
 use native.Mathlib.Omega.{arith}
 use lib.ListN.{length, length-set}

@@ -34,14 +34,14 @@ pub overflow_add-result-2 : goal.overflow_add-result-2
 overflow_add-result-2 c =
     let l-a = below (drop c.args.at c.args.text.now) (49 ∷ 54 ∷ 10 ∷ []) _ 3 c.shared-a.ensures.answer refl c.if-a-eq3.false in
     let l-b = below (drop c.args.at c.args.text.now) (51 ∷ 50 ∷ 10 ∷ []) _ 3 c.shared-b.ensures.answer refl c.if-b-eq3.false in
-    let m : c.further.result ≤ 3 = larger _ _ _ l-a l-b c.further.ensures.answer in
+    let m : c.max.result ≤ 3 = larger _ _ _ l-a l-b c.max.ensures in
     search rules
 
 pub returns : goal.returns
 returns c =
     let l-a = below (drop c.args.at c.args.text.now) (49 ∷ 54 ∷ 10 ∷ []) _ 3 c.shared-a.ensures.answer refl c.if-a-eq3.false in
     let l-b = below (drop c.args.at c.args.text.now) (51 ∷ 50 ∷ 10 ∷ []) _ 3 c.shared-b.ensures.answer refl c.if-b-eq3.false in
-    record { answer = rw (c.if-not-wide.false, c.further.ensures.answer) (bits_stopped _ _ _ _ c.shared-a.ensures.answer c.shared-b.ensures.answer l-a l-b) }
+    record { answer = rw (c.if-not-wide.false, c.max.ensures) (bits_stopped _ _ _ _ c.shared-a.ensures.answer c.shared-b.ensures.answer l-a l-b) }
 
 pub overflow_add-result-then-not-wide : goal.overflow_add-result-then-not-wide
 overflow_add-result-then-not-wide c =

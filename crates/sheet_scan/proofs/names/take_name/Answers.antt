@@ -43,7 +43,7 @@ overflow_add-result-2 c =
     let l-b : _ ≤ 9 = rw (← c.shared_line-b.ensures.answer) at (common_right (drop at t) (98 ∷ 105 ∷ 108 ∷ 105 ∷ 110 ∷ 101 ∷ 97 ∷ 114 ∷ 10 ∷ [])) in
     let l-c : _ ≤ 11 = rw (← c.shared_line-c.ensures.answer) at (common_right (drop at t) (99 ∷ 97 ∷ 116 ∷ 109 ∷ 117 ∷ 108 ∷ 108 ∷ 114 ∷ 111 ∷ 109 ∷ 10 ∷ [])) in
     let l-d : _ ≤ 9 = rw (← c.shared_line-d.ensures.answer) at (common_right (drop at t) (109 ∷ 105 ∷ 116 ∷ 99 ∷ 104 ∷ 101 ∷ 108 ∷ 108 ∷ 10 ∷ [])) in
-    let m : c.further-3.result ≤ 11 = largest _ _ _ _ _ _ _ l-a l-b l-c l-d c.further.ensures.answer c.further-2.ensures.answer c.further-3.ensures.answer in
+    let m : c.max-3.result ≤ 11 = largest _ _ _ _ _ _ _ l-a l-b l-c l-d c.max.ensures c.max-2.ensures c.max-3.ensures in
     search rules
 
 pub returns : goal.returns
@@ -56,7 +56,7 @@ returns c =
     let n-c = c.if-c-eq11.false in
     let n-d = c.if-d-eq9.false in
     record {
-      answer = rw (c.further-3.ensures.answer, c.further.ensures.answer, c.further-2.ensures.answer)
+      answer = rw (c.max-3.ensures, c.max.ensures, c.max-2.ensures)
           (names_stopped t at _ _ _ _ c.shared_line-a.ensures.answer c.shared_line-b.ensures.answer c.shared_line-c.ensures.answer c.shared_line-d.ensures.answer (
             below Box t at _ 4 c.shared_line-a.ensures.answer refl n-a,
             below Bilinear t at _ 9 c.shared_line-b.ensures.answer refl n-b,

@@ -7,7 +7,7 @@ use borrow.Author.Rules.{rules}
 use Rattle.text.specs.Text.{field_text}
 use Rattle.text.proofs.TextLaws.{laid_none, laid_then, laid_byte}
 use Rattle.sheet.specs.Keys.{comma}
-use Rattle.excesses.proofs.SumLaws.{wide_back}
+use Rattle.story_text.proofs.SumSizes.{wide_back}
 use Rattle.vertical.proofs.ReadBack.{back64 as back}
 use Rattle.story_text.specs.Keys.{key_line}
 use Rattle.story_text.specs.Text.{product, part_text, camera_text}

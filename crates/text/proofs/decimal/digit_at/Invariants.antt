@@ -1,14 +1,7 @@
--- `decimal::digit` meets its contract: after k turns m is n / 10^k. Assumes nothing.
+-- `decimal::digit_at` meets its contract: after so many turns m is n divided by that power of 10. Assumes nothing.
 use mathlib.Core.Path.{◌≡◌}
-use Prim.Native.Nat.{◌≤◌, ◌-◌, ◌/◌, ◌^◌}
-use native.Mathlib.Nat.{div-one, pow-suc, div-div-eq-div-mul}
-use native.Mathlib.Numerals.{add-one}
-use native.Mathlib.Omega.{arith}
-use borrow.Author.Rules.{rules}
+use Prim.Native.Nat.{◌≤◌, ◌/◌, ◌^◌}
 use Rattle.text.proofs.decimal.digit_at.Given as goal
 
-abbrev pub invariant-loop-k : goal.invariant-loop-k
-invariant-loop-k l = (l.k ≤ l.p) × (l.m ≡ l.n / 10 ^ l.k)
-
-abbrev pub decreases-loop-k : goal.decreases-loop-k
-decreases-loop-k l = l.p - l.k
+abbrev pub invariant-loop : goal.invariant-loop
+invariant-loop l = (l.counter ≤ l.p) × (l.m ≡ l.n / 10 ^ l.counter)

@@ -1,14 +1,11 @@
 -- `decimal::digit_count`: the goals that the check leaves; the argument stands in Invariants.antt. Assumes nothing.
 use mathlib.Core.Path.{◌≡◌, refl, ◌∙◌, sym}
-use mathlib.Core.Bool.{Bool}
-use Prim.Native.Nat.{ℕ, ◌≤◌, ◌-◌, ◌+◌, ◌/◌, ◌^◌}
+use Prim.Native.Nat.{◌-◌, ◌+◌, ◌/◌, ◌^◌}
 use native.Mathlib.Nat.{pow-suc, div-div-eq-div-mul}
 use native.Mathlib.Numerals.{add-one}
 use native.Mathlib.Omega.{arith}
-use lib.Dec.{eqb}
 use borrow.Author.Rules.{rules}
 use borrow.Author.Tests.{eq-eqb, ne_eqb}
-use Rattle.lists.specs.Tab.{first}
 use Rattle.text.specs.Text.{digit_count_value}
 use Rattle.lists.proofs.FirstLaws.{first_stop, first_on}
 use Rattle.text.proofs.decimal.digit_count.Invariants.{gone}
@@ -36,6 +33,7 @@ loop-k-preserved c =
     )
 
 pub returns : goal.returns
+unfolding gone
 returns c =
-    let none : 20 - c.loop-k.k ≡ 0 = omega arith in
-    record { answer = sym (c.loop-k.invariant.2 ∙ rw none) }
+    let last : c.loop-k.k ≡ 20 = omega arith in
+    record { answer = sym (rw last at c.loop-k.invariant.2) }

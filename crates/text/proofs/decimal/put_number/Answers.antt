@@ -1,12 +1,12 @@
 -- `decimal::put_number`: the goals that the check leaves; the argument stands in Invariants.antt. Assumes nothing.
 use mathlib.Core.Path.{◌≡◌, ap, ◌∙◌}
-use Prim.Native.Nat.{ℕ, ◌≤◌, ◌-◌}
+use Prim.Native.Nat.{ℕ}
 use native.Mathlib.Omega.{arith}
 use lib.ListN.{set}
 use borrow.Author.Rules.{rules}
 use Rattle.lists.specs.Tab.{tab}
 use Rattle.text.specs.Text.{digit_at_value, decimal}
-use Rattle.text.proofs.TextLaws.{Laid, laid_none, laid_slot, laid_long}
+use Rattle.text.proofs.TextLaws.{laid_none, laid_slot, laid_long}
 use Rattle.text.proofs.decimal.put_number.Goals as goal
 
 pub loop-i-init : goal.loop-i-init

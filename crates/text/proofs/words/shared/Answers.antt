@@ -1,12 +1,13 @@
 -- `words::shared`: the goals that the check leaves; the argument stands in Invariants.antt. Assumes nothing.
 use mathlib.Core.Path.{◌≡◌}
 use mathlib.Core.List.{List}
-use Prim.Native.Nat.{ℕ, ◌-◌, ◌≤◌}
+use Prim.Native.Nat.{ℕ, ◌≤◌}
 use native.Mathlib.Nat.{zero-add, add-zero}
 use lib.ListN.{length, drop, drop_of_length-le}
+use native.Mathlib.Omega.{arith}
 use borrow.Author.Rules.{rules}
 use Rattle.text.specs.Words.{common}
-use Rattle.text.proofs.WordLaws.{Shared, ended, all, differs, agrees}
+use Rattle.text.proofs.WordLaws.{ended, all, differs, agrees}
 use Rattle.text.proofs.words.shared.Goals as goal
 
 past : (word text : List ℕ) (at : ℕ) → length text ≤ at → 0 ≡ common (drop at text) word
@@ -30,4 +31,6 @@ pub loop-k-preserved : goal.loop-k-preserved
 loop-k-preserved c = agrees _ _ _ _ c.loop-k.invariant (search rules) (search rules) c.if-text-at-3.false
 
 pub returns : goal.returns
-returns c = record { answer = all _ _ _ _ c.loop-k.invariant (search rules) }
+returns c =
+    let last : c.loop-k.k ≡ length c.args.word.now = omega arith in
+    record { answer = rw (← last) (all _ _ _ _ c.loop-k.invariant (search rules)) }

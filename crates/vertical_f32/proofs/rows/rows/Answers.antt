@@ -21,13 +21,20 @@ below : (x i n j : ℕ) → x < i → j < n → x * n + j < i * n
 below x i n j h k = omega (arith, row_end x i n h)
 
 pub loop-i-init : goal.loop-i-init
-loop-i-init c = (omega arith, refl, (λ x h. absurd (not-suc-le-zero h)), refl, start_flags 4, zero_flag (of_bits binary32 0) start_zero, (λ p q x h. absurd (not-suc-le-zero h)))
+loop-i-init c = (
+  refl,
+  (λ x h. absurd (not-suc-le-zero h)),
+  refl,
+  start_flags 4,
+  zero_flag (of_bits binary32 0) start_zero,
+  (λ p q x h. absurd (not-suc-le-zero h)),
+)
 
-pub overflow_mul-wide : goal.overflow_mul-wide
-overflow_mul-wide c = rw c.wide.ensures (omega (arith, there_here _ _ _ _ _ _ _ _ _ c.requires.ready c.requires.small_weights c.requires.small_samples _ c.loop-i-test.true))
+pub overflow_mul-starts : goal.overflow_mul-starts
+overflow_mul-starts c = (omega (arith, there_here _ _ _ _ _ _ _ _ _ c.requires.ready c.requires.small_weights c.requires.small_samples _ c.loop-i-test.true))
 
-pub overflow_add-wide : goal.overflow_add-wide
-overflow_add-wide c = rw c.wide.ensures (omega (arith, there_here _ _ _ _ _ _ _ _ _ c.requires.ready c.requires.small_weights c.requires.small_samples _ c.loop-i-test.true))
+pub overflow_add-starts : goal.overflow_add-starts
+overflow_add-starts c = (omega (arith, there_here _ _ _ _ _ _ _ _ _ c.requires.ready c.requires.small_weights c.requires.small_samples _ c.loop-i-test.true))
 
 pub overflow_mul-i : goal.overflow_mul-i
 overflow_mul-i c = omega (arith, there_here _ _ _ _ _ _ _ _ _ c.requires.ready c.requires.small_weights c.requires.small_samples _ c.loop-i-test.true)
@@ -42,9 +49,7 @@ pub place-m-requires : goal.place-m-requires
 place-m-requires c =
     let a = c.args in
     let t = there_here _ _ _ _ _ _ _ _ _ c.requires.ready c.requires.small_weights c.requires.small_samples _ c.loop-i-test.true in
-    let e = c.wide.ensures in
-    let z = c.wide-in-loop-i.ensures in
-    record { z0_len = (c.loop-i.invariant.3, c.loop-i.invariant.4); count_bound = (rw e (omega (arith, t.first_line, t.columns)), rw z t.weights, omega (arith, t.outputs, c.loop-i.invariant.1)); summable = rw (e, z) (summable_here a.src.now a.row a.first a.count a.starts.now a.sizes.now a.window a.weights.now (length a.out.now) c.requires.ready c.requires.small_weights c.requires.small_samples c.loop-i.i c.loop-i-test.true) }
+    record { z0_len = (c.loop-i.invariant.2, c.loop-i.invariant.3); count_bound = ((omega (arith, t.first_line, t.columns)), t.weights, omega (arith, t.outputs, c.loop-i.invariant.0)); summable = (summable_here a.src.now a.row a.first a.count a.starts.now a.sizes.now a.window a.weights.now (length a.out.now) c.requires.ready c.requires.small_weights c.requires.small_samples c.loop-i.i c.loop-i-test.true) }
 
 pub overflow_mul-i-in-loop-i-2 : goal.overflow_mul-i-in-loop-i-2
 overflow_mul-i-in-loop-i-2 c = omega (arith, there_here _ _ _ _ _ _ _ _ _ c.requires.ready c.requires.small_weights c.requires.small_samples _ c.loop-i-test.true)
@@ -55,23 +60,20 @@ overflow_mul-count c = omega (arith, there_here _ _ _ _ _ _ _ _ _ c.requires.rea
 pub rest-z-requires : goal.rest-z-requires
 rest-z-requires c =
     let t = there_here _ _ _ _ _ _ _ _ _ c.requires.ready c.requires.small_weights c.requires.small_samples _ c.loop-i-test.true in
-    (c.loop-i.invariant.5, omega (arith, t.outputs, c.loop-i.invariant.1, c.place-m.auto.out))
+    (c.loop-i.invariant.4, omega (arith, t.outputs, c.loop-i.invariant.0, c.place-m.auto.out))
 
 pub loop-i-preserved : goal.loop-i-preserved
 loop-i-preserved c =
     let a = c.args in
     let n = c.place-m in
     let new = n.new.out in
-    let e = c.wide.ensures in
-    let k = c.wide-in-loop-i.ensures in
     let Value : ℕ → ℕ → Float = window_value a.src.now a.row a.first a.starts.now a.sizes.now a.window a.weights.now in
-    let here : (j : ℕ) → j < a.count → get_or new (c.loop-i.i * a.count + j) nan ≡ Value c.loop-i.i j = λ j g. n.ensures.by_index j g ∙ rw (e, k) refl in (
-      omega (arith, c.loop-i-test.true),
-      n.auto.out ∙ c.loop-i.invariant.1,
+    let here : (j : ℕ) → j < a.count → get_or new (c.loop-i.i * a.count + j) nan ≡ Value c.loop-i.i j = λ j g. n.ensures.by_index j g in (
+      n.auto.out ∙ c.loop-i.invariant.0,
       below_more
           (λ (x : ℕ). (j : ℕ) → j < a.count → get_or new (x * a.count + j) nan ≡ Value x j)
           c.loop-i.i
-          (λ x h j g. n.ensures.by_index_2 (x * a.count + j) (below x c.loop-i.i a.count j h g) ∙ c.loop-i.invariant.2 x h j g)
+          (λ x h j g. n.ensures.by_index_2 (x * a.count + j) (below x c.loop-i.i a.count j h g) ∙ c.loop-i.invariant.1 x h j g)
           here,
       n.ensures.result_len.0,
       n.ensures.result_len.1,
@@ -79,23 +81,23 @@ loop-i-preserved c =
       (λ p q. below_more
           (λ (x : ℕ). (j : ℕ) → j < a.count → AtMost (Value x j) (2 ^ 128))
           c.loop-i.i
-          (c.loop-i.invariant.6 (n.ensures.result_len.2 p) (c.rest-z.ensures.t.1 q))
+          (c.loop-i.invariant.5 (n.ensures.result_len.2 p) (c.rest-z.ensures.t.1 q))
           (λ j g. join (λ (j : ℕ). j < a.count → AtMost (Value c.loop-i.i j) (2 ^ 128)) 0 (a.count / 16 * 16) a.count
-          (λ y v h w. rw (e, k) at (n.ensures.at_most p y h))
+          (λ y v h w. (n.ensures.at_most p y h))
           (λ y v h w. subst (λ (x : Float). AtMost x (2 ^ 128)) (here y w) (c.rest-z.ensures.small q y v h))
           j zero-le g g)),
     )
 
 pub all_four-requires : goal.all_four-requires
-all_four-requires c = c.loop-i.invariant.4
+all_four-requires c = c.loop-i.invariant.3
 
 pub returns-then-not-all_four : goal.returns-then-not-all_four
-returns-then-not-all_four c = record { by_index = (λ x h j g. c.loop-i.invariant.2 x (omega arith) j g); at_most = (λ e. never (sym e)) }
+returns-then-not-all_four c = record { by_index = (λ x h j g. c.loop-i.invariant.1 x (omega arith) j g); at_most = (λ e. never (sym e)) }
 
 pub is_zero-requires : goal.is_zero-requires
-is_zero-requires c = c.loop-i.invariant.5
+is_zero-requires c = c.loop-i.invariant.4
 
 pub returns : goal.returns
 returns c =
     let zz = c.all_four.ensures (c.if-not-all_four.false) in
-    record { by_index = (λ x h j g. c.loop-i.invariant.2 x (omega arith) j g); at_most = (λ e x h j g. c.loop-i.invariant.6 zz (subst T (sym (sym c.is_zero.ensures ∙ e)) tt) x (omega arith) j g) }
+    record { by_index = (λ x h j g. c.loop-i.invariant.1 x (omega arith) j g); at_most = (λ e x h j g. c.loop-i.invariant.5 zz (subst T (sym (sym c.is_zero.ensures ∙ e)) tt) x (omega arith) j g) }

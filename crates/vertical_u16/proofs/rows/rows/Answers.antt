@@ -1,4 +1,6 @@
 -- `rows::rows`: the goals that the check leaves; the argument stands in Invariants.antt. Assumes nothing.
+use mathlib.Core.Path.{refl}
+use lib.ListN.{get_or}
 use native.Mathlib.Omega.{arith}
 use Rattle.vertical.proofs.Turns.{window_there}
 use Rattle.vertical.proofs.RowTurns.{rows_none, rows_all, turn_few, turn_lines, turn_low, turn}
@@ -16,22 +18,22 @@ pub bounds-sizes-i : goal.bounds-sizes-i
 bounds-sizes-i c = omega (arith, c.requires.ready.set.pairs)
 
 pub overflow_add-e : goal.overflow_add-e
-overflow_add-e c = rw c.wide.ensures (omega (arith, window_there _ _ _ _ _ _ _ _ _ c.requires.ready c.loop-i.i c.loop-i-test.true))
+overflow_add-e c = (omega (arith, window_there _ _ _ _ _ _ _ _ _ c.requires.ready c.loop-i.i c.loop-i-test.true))
 
 pub overflow_add-f : goal.overflow_add-f
 overflow_add-f c = omega (arith, window_there _ _ _ _ _ _ _ _ _ c.requires.ready c.loop-i.i c.loop-i-test.true, c.loop-i.invariant.1)
 
 pub overflow_mul-at : goal.overflow_mul-at
-overflow_mul-at c = rw c.wide-in-loop-i.ensures (omega (arith, window_there _ _ _ _ _ _ _ _ _ c.requires.ready c.loop-i.i c.loop-i-test.true))
+overflow_mul-at c = (omega (arith, window_there _ _ _ _ _ _ _ _ _ c.requires.ready c.loop-i.i c.loop-i-test.true))
 
 pub overflow_add-at : goal.overflow_add-at
-overflow_add-at c = rw c.wide-in-loop-i.ensures (omega (arith, window_there _ _ _ _ _ _ _ _ _ c.requires.ready c.loop-i.i c.loop-i-test.true))
+overflow_add-at c = (omega (arith, window_there _ _ _ _ _ _ _ _ _ c.requires.ready c.loop-i.i c.loop-i-test.true))
 
 pub offset_bounds-weights-a : goal.offset_bounds-weights-a
 offset_bounds-weights-a c = omega (arith, window_there _ _ _ _ _ _ _ _ _ c.requires.ready c.loop-i.i c.loop-i-test.true)
 
 pub slice_bounds-fill-end : goal.slice_bounds-fill-end
-slice_bounds-fill-end c = omega (arith, window_there _ _ _ _ _ _ _ _ _ c.requires.ready c.loop-i.i c.loop-i-test.true, c.wide.ensures)
+slice_bounds-fill-end c = omega (arith, window_there _ _ _ _ _ _ _ _ _ c.requires.ready c.loop-i.i c.loop-i-test.true)
 
 pub offset_bounds-out-o : goal.offset_bounds-out-o
 offset_bounds-out-o c = omega (arith, window_there _ _ _ _ _ _ _ _ _ c.requires.ready c.loop-i.i c.loop-i-test.true, c.loop-i.invariant.1)
@@ -40,16 +42,16 @@ pub fill-requires : goal.fill-requires
 fill-requires c =
     let a = c.args in
     let h = c.loop-i-test.true in
-    let z = c.wide in
-    let s = c.wide-in-loop-i in
-    record { le_p = c.requires.le_p; row_bound = c.requires.ready.narrow; ws_len_bound = turn_few 65535 a.src.now a.row a.first a.count a.starts.now a.sizes.now a.window a.weights.now a.p a.out.now c.requires.ready c.loop-i.i c.loop-i.o c.loop-i.out c.loop-i.invariant h z.result s.result z.ensures s.ensures; by_index = turn_lines 65535 a.src.now a.row a.first a.count a.starts.now a.sizes.now a.window a.weights.now a.p a.out.now c.requires.ready c.loop-i.i c.loop-i.o c.loop-i.out c.loop-i.invariant h z.result s.result z.ensures s.ensures; out_bound = turn_low 65535 a.src.now a.row a.first a.count a.starts.now a.sizes.now a.window a.weights.now a.p a.out.now c.requires.ready c.loop-i.i c.loop-i.o c.loop-i.out c.loop-i.invariant h z.result s.result z.ensures s.ensures }
+    let Z = get_or a.sizes.now c.loop-i.i 0 in
+    let S = get_or a.starts.now c.loop-i.i 0 in
+    record { le_p = c.requires.le_p; row_bound = c.requires.ready.narrow; ws_len_bound = turn_few 65535 a.src.now a.row a.first a.count a.starts.now a.sizes.now a.window a.weights.now a.p a.out.now c.requires.ready c.loop-i.i c.loop-i.o c.loop-i.out c.loop-i.invariant h Z S refl refl; by_index = turn_lines 65535 a.src.now a.row a.first a.count a.starts.now a.sizes.now a.window a.weights.now a.p a.out.now c.requires.ready c.loop-i.i c.loop-i.o c.loop-i.out c.loop-i.invariant h Z S refl refl; out_bound = turn_low 65535 a.src.now a.row a.first a.count a.starts.now a.sizes.now a.window a.weights.now a.p a.out.now c.requires.ready c.loop-i.i c.loop-i.o c.loop-i.out c.loop-i.invariant h Z S refl refl }
 
 pub loop-i-preserved : goal.loop-i-preserved
 loop-i-preserved c =
     let a = c.args in
-    let z = c.wide in
-    let s = c.wide-in-loop-i in
-    turn 65535 a.src.now a.row a.first a.count a.starts.now a.sizes.now a.window a.weights.now a.p a.out.now c.requires.ready c.loop-i.i c.loop-i.o c.loop-i.out c.loop-i.invariant c.loop-i-test.true z.result s.result z.ensures s.ensures c.fill.ensures.written
+    let Z = get_or a.sizes.now c.loop-i.i 0 in
+    let S = get_or a.starts.now c.loop-i.i 0 in
+    turn 65535 a.src.now a.row a.first a.count a.starts.now a.sizes.now a.window a.weights.now a.p a.out.now c.requires.ready c.loop-i.i c.loop-i.o c.loop-i.out c.loop-i.invariant c.loop-i-test.true Z S refl refl c.fill.ensures.written
 
 pub returns : goal.returns
 returns c =

@@ -12,8 +12,8 @@ use Rattle.vertical.specs.Column.{weight_at}
 use Rattle.row_u8.proofs.Sizes.{total_none, total_more}
 use Rattle.vertical_u8.proofs.judge.sizes_total.Goals as goal
 
-pub loop-k-init : goal.loop-k-init
-loop-k-init c = (omega arith, sym (total_none (weight_at c.args.ws.now)), omega arith)
+pub loop-w-init : goal.loop-w-init
+loop-w-init c = (sym (total_none (weight_at c.args.ws.now)), omega arith)
 
 -- the size r that a turn read, of the weight v
 read : (v : ℤ) {r : ℕ} → mag v < 2 ^ 15 → r ≡ nat_abs (to_z w16 (of_z w16 v)) → (r ≡ nat_abs v) × (r ≤ 2 ^ 15)
@@ -21,16 +21,18 @@ read v {r} h e = let b : to_z w16 (of_z w16 v) ≡ v = to_z-of_z {w = w16} (reco
 
 pub overflow_add-total : goal.overflow_add-total
 overflow_add-total c =
-    let s = read (get_or c.args.ws.now c.loop-k.k (pos 0)) c.size-arg-1.given c.size-total.ensures in
-    record { fits = omega (arith, c.loop-k.invariant.2, s.1, c.requires) }
+    let s = read (get_or c.args.ws.now c.loop-w.w-index (pos 0)) c.size-arg-1.given c.size-total.ensures in
+    record { fits = omega (arith, c.loop-w.invariant.1, s.1, c.requires) }
 
-pub loop-k-preserved : goal.loop-k-preserved
-loop-k-preserved c =
+pub loop-w-preserved : goal.loop-w-preserved
+loop-w-preserved c =
     let ws = c.args.ws.now in
-    let s = read (get_or ws c.loop-k.k (pos 0)) c.size-arg-1.given c.size-total.ensures in
-    (omega arith, omega (arith, s.0, c.loop-k.invariant.1, total_more (weight_at ws) c.loop-k.k), omega (arith, s.1, c.loop-k.invariant.2))
+    let s = read (get_or ws c.loop-w.w-index (pos 0)) c.size-arg-1.given c.size-total.ensures in (
+      omega (arith, s.0, c.loop-w.invariant.0, total_more (weight_at ws) c.loop-w.w-index),
+      omega (arith, s.1, c.loop-w.invariant.1),
+    )
 
 pub returns : goal.returns
 returns c =
-    let all : c.loop-k.k ≡ length c.args.ws.now = omega arith in
-    (rw (← all) c.loop-k.invariant.1, omega (arith, c.loop-k.invariant.2, c.requires))
+    let all : c.loop-w.w-index ≡ length c.args.ws.now = omega arith in
+    (rw (← all) c.loop-w.invariant.0, omega (arith, c.loop-w.invariant.1, c.requires))

@@ -22,5 +22,6 @@ loop-p-preserved c =
 
 pub returns : goal.returns
 returns c =
+    let all : c.loop-p.p ≡ c.args.store.bits - 1 = omega arith in
     let none : c.args.store.bits - 1 - c.loop-p.p ≡ 0 = omega arith in
-    sym (c.loop-p.invariant.1 ∙ rw none refl)
+    sym (c.loop-p.invariant.1 ∙ rw none all)

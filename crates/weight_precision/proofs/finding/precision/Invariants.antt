@@ -6,6 +6,3 @@ use Rattle.weight_precision.proofs.finding.precision.Given as goal
 
 abbrev pub invariant-loop-p : goal.invariant-loop-p
 invariant-loop-p l = (l.p + 1 ≤ l.store.bits) × (precision l.store l.weights ≡ first (reaches l.store.limit l.w) l.p (l.store.bits - 1 - l.p))
-
-abbrev pub decreases-loop-p : goal.decreases-loop-p
-decreases-loop-p l = l.store.bits - l.p

@@ -2,13 +2,13 @@
 use Rattle.std.proofs.Common.{◌≡◌, length, refl, add-one, arith}
 use Rattle.weight_precision.proofs.serving.some_not_finite.Goals as goal
 
-pub loop-k-init : goal.loop-k-init
-loop-k-init c = (omega arith, refl)
+pub loop-weight-init : goal.loop-weight-init
+loop-weight-init c = (omega arith, refl)
 
-pub loop-k-preserved : goal.loop-k-preserved
-loop-k-preserved c = (omega arith, rw (add-one, c.loop-k.invariant.1, c.finite.ensures.answer))
+pub loop-weight-preserved : goal.loop-weight-preserved
+loop-weight-preserved c = (omega arith, rw (add-one, c.loop-weight.invariant.1, c.finite.ensures.answer))
 
 pub returns : goal.returns
 returns c =
-    let all : c.loop-k.k ≡ length c.args.weights.now = omega arith in
-    rw (← all) c.loop-k.invariant.1
+    let all : c.loop-weight.weight-index ≡ length c.args.weights.now = omega arith in
+    rw (← all) c.loop-weight.invariant.1

@@ -1,5 +1,4 @@
 -- The tests are those of the definition, in its order; the product is judged by `fills`. Assumes nothing.
-use borrow.Author.Rules.{rules}
 use Rattle.windows.proofs.counts.counts_misfit.Goals as goal
 
 -- src/lib.rt

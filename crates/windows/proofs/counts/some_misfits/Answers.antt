@@ -1,12 +1,7 @@
 -- `counts::some_misfits`: the goals that the check leaves; the argument stands in Invariants.antt. Assumes nothing.
-use Prim.Native.Nat.{◌-◌, ◌≤◌}
 use mathlib.Core.Path.{◌≡◌, refl}
 use lib.ListN.{length}
-use Rattle.lists.specs.Tab.{any}
-use Rattle.windows.specs.Set.{layout_of}
-use Rattle.windows.specs.Fit.{bad_at}
 use native.Mathlib.Numerals.{add-one}
-use borrow.Author.Rules.{rules}
 use native.Mathlib.Omega.{arith}
 use Rattle.windows.proofs.counts.some_misfits.Goals as goal
 

@@ -1,9 +1,0 @@
--- `serve` is safe and ends: the turns are counted down, and both buffers keep their lengths. Assumes nothing.
-use Rattle.std.proofs.Common.{◌≡◌, length}
-use Rattle.ask_program.proofs.serve.Given as goal
-
-abbrev pub invariant-loop-turns : goal.invariant-loop-turns
-invariant-loop-turns l = (length l.buf ≡ length l.initial.buf) × (length l.out ≡ length l.initial.out)
-
-abbrev pub decreases-loop-turns : goal.decreases-loop-turns
-decreases-loop-turns l = l.turns

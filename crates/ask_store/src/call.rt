@@ -1,0 +1,79 @@
+// One call of a line.
+use ask_weights::Asked;
+use filter_fields::Name;
+use plans::Request;
+use refusal::Numbered;
+use request_fields::{Fault, Reason, Words};
+
+#[derive(Clone, Copy)]
+pub(crate) enum Call<'a> {
+    // r FIRST SECOND: a restart with these shares
+    Restart {
+        first: u32,
+        second: u32,
+    },
+    // p CLIENT KIND ADAPT AXIS SW SH OUT L T W H: a set put in
+    Put {
+        client: u32,
+        request: Request,
+    },
+    // u CLIENT ROW FIRST COUNT SAMPLES NOUT: a pass, the last two words of which are still to be read
+    Pass {
+        client: u32,
+        row: u32,
+        first: u32,
+        count: u32,
+        lists: Words<'a>,
+    },
+}
+
+impl<'a> Call<'a> {
+    // The call, its fields cut at each colon.
+    pub(crate) fn read(part: &'a [u8]) -> Result<Call<'a>, Fault> {
+        let mut words = Words::cut(part, b':');
+        match words.word()? {
+            b"r" => restart(words),
+            b"p" => put(words),
+            b"u" => pass(words),
+            _ => Err(words.fault(Reason::NoRequest)),
+        }
+    }
+}
+
+// The fields of a restart.
+fn restart(mut words: Words<'_>) -> Result<Call<'_>, Fault> {
+    let first = words.number()?;
+    let second = words.number()?;
+    words.end()?;
+    Ok(Call::Restart { first, second })
+}
+
+// The fields of a put.
+fn put(mut words: Words<'_>) -> Result<Call<'_>, Fault> {
+    let client = words.number()?;
+    let name = Name::read(&mut words)?;
+    let asked = Asked::read(&mut words)?;
+    words.end()?;
+    let request = asked.by(name.filter()?);
+    Ok(Call::Put { client, request })
+}
+
+// The fields of a pass.
+fn pass(mut words: Words<'_>) -> Result<Call<'_>, Fault> {
+    let client = words.number()?;
+    let row = words.number()?;
+    let first = words.number()?;
+    let count = words.number()?;
+    let lists = words;
+    let mut room = [0u16; 131072];
+    words.list(&mut room)?;
+    words.lent(&mut room)?;
+    words.end()?;
+    Ok(Call::Pass {
+        client,
+        row,
+        first,
+        count,
+        lists,
+    })
+}

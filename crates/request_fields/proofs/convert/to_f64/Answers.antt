@@ -1,8 +1,0 @@
--- convert::to_f64 is safe: a pattern that is not past the infinities is no NaN's (`no_nan_code`). Assumes nothing.
-use Rattle.std.proofs.Common.{arith}
-use lib.Ieee.{binary64}
-use Rattle.floats.proofs.Codes.{no_nan_code}
-use Rattle.request_fields.proofs.convert.to_f64.Goals as goal
-
-pub float_from_bits-result : goal.float_from_bits-result
-float_from_bits-result c = no_nan_code binary64 c.args.b (omega arith)

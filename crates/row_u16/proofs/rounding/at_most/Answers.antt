@@ -1,9 +1,0 @@
--- The two ways are the two cases of the definition. Assumes nothing.
-use mathlib.Core.Path.{refl}
-use Rattle.row_u16.proofs.rounding.at_most.Goals as goal
-
-pub returns-then-x-y : goal.returns-then-x-y
-returns-then-x-y c = rw c.if-x-y.true refl
-
-pub returns-else-x-y : goal.returns-else-x-y
-returns-else-x-y c = rw c.if-x-y.false refl

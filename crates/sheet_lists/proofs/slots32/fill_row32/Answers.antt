@@ -1,7 +1,0 @@
--- `fill_row32` meets its contract: weights over zeros. Assumes nothing.
-use lib.ListN.{length}
-use Rattle.sheet_lists.proofs.SlotLaws.{row_slots}
-use Rattle.sheet_lists.proofs.slots32.fill_row32.Goals as goal
-
-pub returns : goal.returns
-returns c = record { answer = c.put_weights32.ensures.answer; written = row_slots c.args.limit c.args.size c.args.text.now c.args.at (length c.args.out.now) _ _ c.zero32.ensures.written c.requires.le_limit.3 c.put_weights32.ensures.written }
