@@ -23,3 +23,4 @@ pub mod Restated
 pub mod Table
 pub mod ReadBack
 pub mod Numbers
+pub mod EitherStore
