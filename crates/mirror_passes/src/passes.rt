@@ -80,6 +80,6 @@ pub extern "C" fn mirror_vertical_f32(
         window,
         out,
     );
-    *infinite = answer.unwrap_or(0);
+    *infinite = vertical::infinite(answer);
     answer.number()
 }

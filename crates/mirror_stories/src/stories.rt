@@ -41,6 +41,6 @@ pub extern "C" fn mirror_story(
         column,
         text,
     );
-    *written = answer.unwrap_or(0);
+    *written = story::length(answer);
     answer.number()
 }

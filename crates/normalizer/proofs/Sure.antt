@@ -12,6 +12,13 @@ use Rattle.normalizer.proofs.normalize16.Kinds as normalize16
 use Rattle.normalizer.proofs.normalize16.Reads as normalize16-reads
 use Rattle.normalizer.proofs.normalize32.Kinds as normalize32
 use Rattle.normalizer.proofs.normalize32.Reads as normalize32-reads
+use denote.RattleType.{RattleType}
+use denote.Param.Laws.{Laws, IsCopy}
+use mir.Syntax.{Dict}
+use Rattle.windows.specs.declared.Weight as weight
+use Rattle.std.specs.declared.clone.Clone as clone
+use Rattle.normalizer.proofs.normalize.Kinds as normalize
+use Rattle.normalizer.proofs.normalize.Reads as normalize-reads
 
 abbrev with16 : ℕ → Normalizer16
 with16 p = record { precision = p }
@@ -28,3 +35,8 @@ normalize16_decides κs a x y s t p q = (p.0 ∙ sym q.0, (p.1.0 ∙ sym q.1.0, 
 
 pub normalize32_decides : Decides normalize32.ps normalize32.r normalize32-reads.Post (λ κs s t. (s.1.1.1.1.1.0.now ≡ t.1.1.1.1.1.0.now) × (s.1.1.1.1.1.1.0.now ≡ t.1.1.1.1.1.1.0.now))
 normalize32_decides κs a x y s t p q = (p.0 ∙ sym q.0, (p.1.0 ∙ sym q.1.0, p.1.1 ∙ sym q.1.1))
+
+-- of `normalize`, over the weights of any store: what is written is decided as the numbers that the weights stand for, which for the two stores are the weights themselves
+module _ (W : RattleType) (l : Laws W) (c : IsCopy W) (w : weight.Ghosts W.Denot) (wd : Dict) (k : clone.Ghosts W.Denot) (kd : Dict) where
+  pub normalize_decides : Decides (normalize.ps W l c) (normalize.r W l c) (normalize-reads.Post W l c w wd k kd) (λ κs s t. (w.values s.1.1.1.1.1.0.now ≡ w.values t.1.1.1.1.1.0.now) × (s.1.1.1.1.1.1.0.now ≡ t.1.1.1.1.1.1.0.now))
+  normalize_decides κs a x y s t p q = (p.0 ∙ sym q.0, (p.1.0 ∙ sym q.1.0, p.1.1 ∙ sym q.1.1))

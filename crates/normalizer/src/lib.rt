@@ -68,8 +68,9 @@ impl Normalizer32 {
     }
 }
 
-// The weights of a set in a store with their excesses, and their precision, or the number that refuses them; for any numbers and lists.
-pub fn normalize<W: Weight>(
+// The weights of a set in a store with their excesses, and their precision, or the number that refuses them; for any numbers and lists. The store is that of the weights' type.
+fn normalize_in<W: Weight>(
+    store: Store,
     lines: u32,
     window_size: u32,
     weights: &[f64],
@@ -78,12 +79,13 @@ pub fn normalize<W: Weight>(
     out: &mut [W],
     excesses: &mut [i64],
 ) -> Result<u32, Refusal>
+    requires { store ≡ W.STORE }
     ensures answer { result ≡ normalized_of W.STORE (set_of (layout_of lines window_size starts.now sizes.now) weights.now) (length out.old) (length excesses.old) }
     ensures written { W.values out.new ≡ written_of W.STORE (set_of (layout_of lines window_size starts.now sizes.now) weights.now) (length excesses.old) (W.values out.old) }
     ensures written2 { excesses.new ≡ excesses_of W.STORE (set_of (layout_of lines window_size starts.now sizes.now) weights.now) (length out.old) excesses.old }
 {
     let p = judge::judge(
-        W::STORE,
+        store,
         lines,
         window_size,
         weights,
@@ -97,7 +99,33 @@ pub fn normalize<W: Weight>(
     Ok(p)
 }
 
-// The same in the 16-bit store.
+// The same in the store of the weights' type.
+pub fn normalize<W: Weight>(
+    lines: u32,
+    window_size: u32,
+    weights: &[f64],
+    starts: &[u32],
+    sizes: &[u32],
+    out: &mut [W],
+    excesses: &mut [i64],
+) -> Result<u32, Refusal>
+    ensures answer { result ≡ normalized_of W.STORE (set_of (layout_of lines window_size starts.now sizes.now) weights.now) (length out.old) (length excesses.old) }
+    ensures written { W.values out.new ≡ written_of W.STORE (set_of (layout_of lines window_size starts.now sizes.now) weights.now) (length excesses.old) (W.values out.old) }
+    ensures written2 { excesses.new ≡ excesses_of W.STORE (set_of (layout_of lines window_size starts.now sizes.now) weights.now) (length out.old) excesses.old }
+{
+    normalize_in(
+        W::STORE,
+        lines,
+        window_size,
+        weights,
+        starts,
+        sizes,
+        out,
+        excesses,
+    )
+}
+
+// The same in the 16-bit store, whose bits and limit are those of `Normalizer16`.
 pub fn normalize16(
     lines: u32,
     window_size: u32,
@@ -111,10 +139,19 @@ pub fn normalize16(
     ensures written { out.new ≡ written_of store16 (set_of (layout_of lines window_size starts.now sizes.now) weights.now) (length excesses.old) out.old }
     ensures written2 { excesses.new ≡ excesses_of store16 (set_of (layout_of lines window_size starts.now sizes.now) weights.now) (length out.old) excesses.old }
 {
-    normalize(lines, window_size, weights, starts, sizes, out, excesses)
+    normalize_in(
+        Normalizer16::STORE,
+        lines,
+        window_size,
+        weights,
+        starts,
+        sizes,
+        out,
+        excesses,
+    )
 }
 
-// The same in the 32-bit store.
+// The same in the 32-bit store, with those of `Normalizer32`.
 pub fn normalize32(
     lines: u32,
     window_size: u32,
@@ -128,5 +165,14 @@ pub fn normalize32(
     ensures written { out.new ≡ written_of store32 (set_of (layout_of lines window_size starts.now sizes.now) weights.now) (length excesses.old) out.old }
     ensures written2 { excesses.new ≡ excesses_of store32 (set_of (layout_of lines window_size starts.now sizes.now) weights.now) (length out.old) excesses.old }
 {
-    normalize(lines, window_size, weights, starts, sizes, out, excesses)
+    normalize_in(
+        Normalizer32::STORE,
+        lines,
+        window_size,
+        weights,
+        starts,
+        sizes,
+        out,
+        excesses,
+    )
 }

@@ -22,5 +22,3 @@ pub mod Refused
 pub mod Restated
 pub mod Table
 pub mod ReadBack
-pub mod Numbers
-pub mod EitherStore

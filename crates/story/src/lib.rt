@@ -3,6 +3,7 @@
 // and counted all the same.
 #![tactic(auto)]
 
+mod answer;
 mod place;
 
 ghost use Rattle.std.specs.Prelude.{◌≡◌, cond, ◌≤◌, length, Ok, Err};
@@ -15,6 +16,7 @@ ghost use Rattle.story_text.specs.There.{sample_from, There};
 ghost use Rattle.refusal.specs.declared.Refusal.TheVariants.{NoRoom};
 ghost use Rattle.story.specs.Answer.{answer_of, written_of};
 
+pub use answer::length;
 use excesses::stored_fits32;
 use place::misses;
 use refusal::Refusal;

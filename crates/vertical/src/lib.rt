@@ -3,10 +3,13 @@
 // those columns of the whole frame.
 #![tactic(auto)]
 
+mod answer;
+
 ghost use Rattle.std.specs.Prelude.{◌≡◌, not};
 ghost use Rattle.windows.specs.Set.{layout_of};
 ghost use Rattle.vertical.specs.Frame.{bad_size, bad_range, bad_area, bad_shape};
 
+pub use answer::infinite;
 use windows::{fills, set_fits, sides_fit};
 
 // A frame of samples, line after line, and the columns of it that are asked for.
