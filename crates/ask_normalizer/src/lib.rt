@@ -2,26 +2,27 @@
 #![tactic(auto)]
 
 use answer_lines::{Output, Show};
-use refusal::Numbered;
+use normalizer::{normalize16, normalize32};
+use refusal::{Numbered, Refusal};
 use request_fields::{Element, Fault, Words};
-use windows::Weight;
 
 // Whether the line is one of these requests, which is answered then.
 pub fn answer(line: &[u8], out: &mut Output<'_>) -> Result<bool, Fault> {
     let mut words = Words::new(line);
     match words.word()? {
-        b"norm16" => normalize(words, &mut [0i16; 131072], out),
-        b"norm32" => normalize(words, &mut [0i32; 131072], out),
+        b"norm16" => normalized(words, &mut [0i16; 131072], out, normalize16),
+        b"norm32" => normalized(words, &mut [0i32; 131072], out, normalize32),
         _ => Ok(false),
     }
 }
 
-// The number, the precision and the two lists that are lent.
-fn normalize<W: Weight + Element + Show>(
-    mut words: Words<'_>,
-    lent: &mut [W],
-    out: &mut Output<'_>,
-) -> Result<bool, Fault> {
+// The number, the precision and the two lists that are lent, by the normaliser of the store.
+fn normalized<
+    W: Element + Show,
+    F: FnOnce(u32, u32, &[f64], &[u32], &[u32], &mut [W], &mut [i64]) -> Result<u32, Refusal>,
+>(mut words: Words<'_>, lent: &mut [W], out: &mut Output<'_>, normalize: F) -> Result<bool, Fault>
+    requires { F.IsAlwaysCallable normalize }
+{
     let mut weights = [0.0f64; 131072];
     let mut starts = [0u32; 131072];
     let mut sizes = [0u32; 131072];
@@ -34,7 +35,7 @@ fn normalize<W: Weight + Element + Show>(
     let lent = words.lent(lent)?;
     let excesses = words.lent(&mut excesses)?;
     words.end()?;
-    let answer = normalizer::normalize(lines, window, weights, starts, sizes, lent, excesses);
+    let answer = normalize(lines, window, weights, starts, sizes, lent, excesses);
     out.show(answer.number());
     out.next(answer.unwrap_or(0));
     out.byte(b' ');

@@ -22,7 +22,7 @@ pub(crate) fn answer(mut words: Words<'_>, out: &mut Output<'_>) -> Result<bool,
         samples, frame, weights, starts, sizes, window, lent,
     );
     out.show(answer.number());
-    out.next(answer.unwrap_or(0));
+    out.next(vertical::infinite(answer));
     out.byte(b' ');
     out.list(lent);
     Ok(true)

@@ -85,9 +85,11 @@ impl<'a> Input<'a> {
             self.long = true;
             return true;
         }
-        let at = self.at.min(self.buffer.len());
-        self.buffer.rotate_left(at);
-        self.end = self.end.saturating_sub(at);
+        let end = self.end.min(self.buffer.len());
+        let at = self.at.min(end);
+        // What is left alone is moved: little, or nothing, where the input comes a line at a time.
+        self.buffer.copy_within(at..end, 0);
+        self.end = end - at;
         self.at = 0;
         let Some(room) = self.buffer.get_mut(self.end..) else {
             return false;

@@ -16,15 +16,20 @@ pub fn answer(line: &[u8], out: &mut Output<'_>) -> Result<bool, Fault> {
     }
 }
 
-// The pass's number and the output.
-fn sideways(mut words: Words<'_>, out: &mut Output<'_>) -> Result<bool, Fault> {
-    let frame = PixelFrame {
+// The next words as a frame: COMPONENTS ROWS ROW FIRST COUNT.
+fn frame(words: &mut Words<'_>) -> Result<PixelFrame, Fault> {
+    Ok(PixelFrame {
         components: words.number()?,
         rows: words.number()?,
         row: words.number()?,
         first: words.number()?,
         count: words.number()?,
-    };
+    })
+}
+
+// The pass's number and the output. The frame is read apart: where a function leaves early several times, its lists are made zeros twice.
+fn sideways(mut words: Words<'_>, out: &mut Output<'_>) -> Result<bool, Fault> {
+    let frame = frame(&mut words)?;
     ask_passes::pass(
         words,
         &mut [0i32; 131072],

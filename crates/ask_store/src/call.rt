@@ -17,7 +17,7 @@ pub(crate) enum Call<'a> {
         client: u32,
         request: Request,
     },
-    // u CLIENT ROW FIRST COUNT SAMPLES NOUT: a pass, the last two words of which are still to be read
+    // u CLIENT ROW FIRST COUNT SAMPLES NOUT: a pass, the last two words of which are still to be looked at and read
     Pass {
         client: u32,
         row: u32,
@@ -28,6 +28,15 @@ pub(crate) enum Call<'a> {
 }
 
 impl<'a> Call<'a> {
+    // Whether a part of the line is a call, with all its fields.
+    pub(crate) fn is_one(part: &[u8]) -> bool {
+        match Call::read(part) {
+            Ok(Call::Pass { lists, .. }) => seen(lists).is_ok(),
+            Ok(_) => true,
+            Err(_) => false,
+        }
+    }
+
     // The call, its fields cut at each colon.
     pub(crate) fn read(part: &'a [u8]) -> Result<Call<'a>, Fault> {
         let mut words = Words::cut(part, b':');
@@ -64,16 +73,18 @@ fn pass(mut words: Words<'_>) -> Result<Call<'_>, Fault> {
     let row = words.number()?;
     let first = words.number()?;
     let count = words.number()?;
-    let lists = words;
-    let mut room = [0u16; 131072];
-    words.list(&mut room)?;
-    words.lent(&mut room)?;
-    words.end()?;
     Ok(Call::Pass {
         client,
         row,
         first,
         count,
-        lists,
+        lists: words,
     })
+}
+
+// The lists of a pass, only looked at.
+fn seen(mut lists: Words<'_>) -> Result<(), Fault> {
+    lists.seen::<u16>()?;
+    lists.length()?;
+    lists.end()
 }

@@ -24,10 +24,7 @@ fn calls(mut words: Words<'_>, out: &mut Output<'_>) -> Result<bool, Fault> {
     let calls = words.word()?;
     let bad = words.not(Kind::Calls);
     words.end()?;
-    if !calls
-        .split(|b| *b == b'/')
-        .all(|part| Call::read(part).is_ok())
-    {
+    if !calls.split(|b| *b == b'/').all(|part| Call::is_one(part)) {
         return Err(bad);
     }
     make(slots, calls, out)?;

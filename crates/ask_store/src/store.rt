@@ -96,7 +96,7 @@ fn pass(
 ) -> Result<(), Fault> {
     let mut samples = [0u16; 131072];
     let mut lent = [0u16; 131072];
-    let samples = lists.list(&mut samples)?;
+    let samples = lists.taken(&mut samples)?;
     let lent = lists.lent(&mut lent)?;
     let answer = shared_store::pass(
         numbers, slots, starts, sizes, excesses, client, samples, row, first, count, lent,

@@ -41,7 +41,7 @@ fn tell(mut words: Words<'_>, out: &mut Output<'_>) -> Result<bool, Fault> {
         room,
     );
     out.show(answer.number());
-    out.next(answer.unwrap_or(0));
+    out.next(story::length(answer));
     out.byte(b' ');
     out.text(room);
     Ok(true)

@@ -68,7 +68,7 @@ pub(crate) fn read(file: &File, s: Strip, bytes: &mut [u8]) -> Result<(), Ended>
 }
 
 // Writes them to the frame that goes out.
-pub(crate) fn write(to: &io::Result<File>, s: Strip, bytes: &[u8]) -> Result<(), Ended> {
+fn write(to: &io::Result<File>, s: Strip, bytes: &[u8]) -> Result<(), Ended> {
     let each = bytes_in(s.count, s.wide) as usize;
     let mut left = bytes;
     for i in 0..s.rows {
@@ -81,13 +81,18 @@ pub(crate) fn write(to: &io::Result<File>, s: Strip, bytes: &[u8]) -> Result<(),
     Ok(())
 }
 
-// Where the output takes no places, as a pipe, and the strip is the whole frame: its bytes one after the other, which is the order that they have anyway.
-pub(crate) fn in_order(
+// The strip's bytes, written by places, or one after the other where they can be.
+pub(crate) fn put(
     rt: HostRuntime,
-    put: Result<(), Ended>,
+    to: &io::Result<File>,
     s: Strip,
     bytes: &[u8],
 ) -> Result<(), Ended> {
+    in_order(rt, write(to, s, bytes), s, bytes)
+}
+
+// Where the output takes no places, as a pipe, and the strip is the whole frame: its bytes one after the other, which is the order that they have anyway.
+fn in_order(rt: HostRuntime, put: Result<(), Ended>, s: Strip, bytes: &[u8]) -> Result<(), Ended> {
     let Err(Ended::Unwritten(why)) = put else {
         return put;
     };

@@ -3,7 +3,6 @@ ghost use Rattle.std.specs.Prelude.{◌-◌, ◌≤◌};
 
 use crate::columns;
 use crate::places::Strip;
-use frame_files::bytes_in;
 use sheet_scan::Sizes;
 use std::fs::File;
 use std::io;
@@ -59,11 +58,6 @@ pub(crate) fn asked<'a>(
 }
 
 impl Plan<'_> {
-    // How many bytes a sample has.
-    pub(crate) fn each(self) -> usize {
-        bytes_in(1, self.wide) as usize
-    }
-
     // How many columns the strip has that begins behind so many.
     pub(crate) fn next(self, at: u32) -> u32
         ensures { result ≤ self.entry.count - at }

@@ -1,7 +1,7 @@
 // The sheet of a pass, of a store that the pass takes, and the pass that is asked for with it.
 use crate::plan::Plan;
+use crate::said::Ended;
 use crate::samples::Sample;
-use crate::strips::strips;
 use crate::{plan, said};
 use frame_files::times;
 use reader::Unread;
@@ -32,18 +32,16 @@ impl<'a, W> Set<'a, W> {
 }
 
 // The lists of `read` that are alike for both passes, and nothing else: one call. They are as long as those of `read_back`.
-pub(crate) fn judge<S: Sample>(
-    rt: HostRuntime,
-    to: &io::Result<File>,
-    text: &[u8],
-    weights: &mut [S::Weight],
-    samples: &mut [S],
-    out: &mut [S],
-) {
+pub(crate) fn judge<
+    S: Sample,
+    F: FnOnce(HostRuntime, Plan<'_>, Set<'_, S::Weight>) -> Result<(), Ended>,
+>(rt: HostRuntime, to: &io::Result<File>, text: &[u8], weights: &mut [S::Weight], pass: F)
+    requires { F.IsAlwaysCallable pass }
+{
     let mut starts = [0u32; 8192];
     let mut sizes = [0u32; 8192];
     let mut excesses = [0i64; 8192];
-    read(
+    read::<S, F>(
         rt,
         to,
         text,
@@ -51,13 +49,12 @@ pub(crate) fn judge<S: Sample>(
         &mut starts,
         &mut sizes,
         &mut excesses,
-        samples,
-        out,
+        pass,
     );
 }
 
 // The sheet, read, and the pass that is asked for with it.
-fn read<S: Sample>(
+fn read<S: Sample, F: FnOnce(HostRuntime, Plan<'_>, Set<'_, S::Weight>) -> Result<(), Ended>>(
     rt: HostRuntime,
     to: &io::Result<File>,
     text: &[u8],
@@ -65,9 +62,10 @@ fn read<S: Sample>(
     starts: &mut [u32],
     sizes: &mut [u32],
     excesses: &mut [i64],
-    samples: &mut [S],
-    out: &mut [S],
-) {
+    pass: F,
+)
+    requires { F.IsAlwaysCallable pass }
+{
     let answer = S::read_sheet(text, weights, starts, sizes, excesses);
     match answer {
         Ok((head, store)) => {
@@ -77,7 +75,7 @@ fn read<S: Sample>(
                 sizes,
                 excesses,
             };
-            framed(rt, to, head, store.precision, set, samples, out);
+            framed::<S, F>(rt, to, head, store.precision, set, pass);
         }
         Err(Unread::TooFew) => sheet_files::too_large(rt),
         Err(Unread::NotASheet(byte)) => sheet_files::refused(rt, text, byte),
@@ -85,15 +83,16 @@ fn read<S: Sample>(
 }
 
 // The frame's file, opened, and the pass over it.
-fn framed<S: Sample>(
+fn framed<S: Sample, F: FnOnce(HostRuntime, Plan<'_>, Set<'_, S::Weight>) -> Result<(), Ended>>(
     rt: HostRuntime,
     to: &io::Result<File>,
     head: Sizes,
     precision: u32,
     set: Set<'_, S::Weight>,
-    samples: &mut [S],
-    out: &mut [S],
-) {
+    pass: F,
+)
+    requires { F.IsAlwaysCallable pass }
+{
     let Some(file) = frame_files::opened(rt, 2) else {
         return frame_files::no_frame(rt);
     };
@@ -101,20 +100,8 @@ fn framed<S: Sample>(
         return;
     };
     if let Some(own) = set.cut(p.windows, p.window_size) {
-        room(rt, p, own, samples, out);
-    }
-}
-
-// The pass, with room for a strip's bytes.
-fn room<S: Sample>(
-    rt: HostRuntime,
-    p: Plan<'_>,
-    set: Set<'_, S::Weight>,
-    samples: &mut [S],
-    out: &mut [S],
-) {
-    let mut bytes = [0u8; 524288];
-    if let Err(why) = strips(rt, p, set, sheet_files::room(&mut bytes), samples, out) {
-        said::told(rt, why);
+        if let Err(why) = pass(rt, p, own) {
+            said::told(rt, why);
+        }
     }
 }

@@ -1,8 +1,13 @@
 // The samples of the two passes: how a sheet is read for them, how they stand in a file, and the pass itself.
-use frame_files::{decode, encode};
+use crate::places;
+use crate::places::Strip;
+use crate::said::Ended;
+use frame_files::{bytes_in, decode, encode};
 use reader::Unread;
 use refusal::Refusal;
 use sheet_scan::{Sizes, StoreLines};
+use std::fs::File;
+use std::io;
 use vertical::Frame;
 use vertical_u8::vert_convolution_u8;
 use vertical_u16::vert_convolution_u16;
@@ -23,11 +28,17 @@ pub(crate) trait Sample: Copy {
         excesses: &mut [i64],
     ) -> Result<(Sizes, StoreLines), Unread>;
 
-    // The samples that bytes of a file are, as far as both lists go.
-    fn decode(bytes: &[u8], samples: &mut [Self]);
+    // The samples of a strip, read from a file; `bytes` is room for what is to be turned into samples.
+    fn fetch(file: &File, s: Strip, bytes: &mut [u8], samples: &mut [Self]) -> Result<(), Ended>;
 
-    // The bytes that samples are.
-    fn encode(samples: &[Self], bytes: &mut [u8]);
+    // The samples of a strip, written to the frame that goes out, with the same room.
+    fn store(
+        rt: HostRuntime,
+        to: &io::Result<File>,
+        s: Strip,
+        samples: &[Self],
+        bytes: &mut [u8],
+    ) -> Result<(), Ended>;
 
     // The pass over a frame.
     fn pass(
@@ -41,6 +52,11 @@ pub(crate) trait Sample: Copy {
         precision: u32,
         out: &mut [Self],
     ) -> Result<(), Refusal>;
+}
+
+// How many bytes the samples are in a file.
+fn bytes_of(samples: &[u16]) -> usize {
+    samples.len().saturating_mul(bytes_in(1, true) as usize)
 }
 
 impl Sample for u16 {
@@ -58,12 +74,29 @@ impl Sample for u16 {
         reader::read_sheet(text, weights, starts, sizes, excesses)
     }
 
-    fn decode(bytes: &[u8], samples: &mut [u16]) {
-        decode(bytes, samples);
+    fn fetch(file: &File, s: Strip, bytes: &mut [u8], samples: &mut [u16]) -> Result<(), Ended> {
+        let e = bytes_of(samples);
+        if bytes.len() < e {
+            return Err(Ended::Frame);
+        }
+        places::read(file, s, &mut bytes[..e])?;
+        decode(&bytes[..e], samples);
+        Ok(())
     }
 
-    fn encode(samples: &[u16], bytes: &mut [u8]) {
-        encode(samples, bytes);
+    fn store(
+        rt: HostRuntime,
+        to: &io::Result<File>,
+        s: Strip,
+        samples: &[u16],
+        bytes: &mut [u8],
+    ) -> Result<(), Ended> {
+        let e = bytes_of(samples);
+        if bytes.len() < e {
+            return Err(Ended::Full);
+        }
+        encode(samples, &mut bytes[..e]);
+        places::put(rt, to, s, &bytes[..e])
     }
 
     fn pass(
@@ -106,14 +139,19 @@ impl Sample for u8 {
         reader::read_sheet16(text, weights, starts, sizes, excesses)
     }
 
-    fn decode(bytes: &[u8], samples: &mut [u8]) {
-        let n = samples.len().min(bytes.len());
-        samples[..n].copy_from_slice(&bytes[..n]);
+    // A byte is a sample, so nothing is turned into anything.
+    fn fetch(file: &File, s: Strip, _bytes: &mut [u8], samples: &mut [u8]) -> Result<(), Ended> {
+        places::read(file, s, samples)
     }
 
-    fn encode(samples: &[u8], bytes: &mut [u8]) {
-        let n = samples.len().min(bytes.len());
-        bytes[..n].copy_from_slice(&samples[..n]);
+    fn store(
+        rt: HostRuntime,
+        to: &io::Result<File>,
+        s: Strip,
+        samples: &[u8],
+        _bytes: &mut [u8],
+    ) -> Result<(), Ended> {
+        places::put(rt, to, s, samples)
     }
 
     fn pass(

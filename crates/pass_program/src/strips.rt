@@ -1,9 +1,9 @@
 // The pass, strip by strip.
 use crate::plan::Plan;
 use crate::read_sets::Set;
+use crate::said;
 use crate::said::Ended;
 use crate::samples::Sample;
-use crate::{places, said};
 use frame_files::times;
 
 // One strip after the other, until the last or until one fails.
@@ -46,7 +46,7 @@ fn strip<S: Sample>(
     if samples.len() < taken || out.len() < given {
         return Err(Ended::Frame);
     }
-    fetch(p, at, n, bytes, &mut samples[..taken])?;
+    S::fetch(p.file, p.taken(at, n), bytes, &mut samples[..taken])?;
     let answer = S::pass(
         &samples[..taken],
         p.frame(n),
@@ -62,41 +62,5 @@ fn strip<S: Sample>(
         Ok(()) => {}
         Err(refusal) => return Err(Ended::Pass(refusal)),
     }
-    store(rt, p, at, n, &out[..given], bytes)
-}
-
-// The strip's samples, read from the frame.
-fn fetch<S: Sample>(
-    p: Plan<'_>,
-    at: u32,
-    n: u32,
-    bytes: &mut [u8],
-    samples: &mut [S],
-) -> Result<(), Ended> {
-    let e = samples.len().saturating_mul(p.each());
-    if bytes.len() < e {
-        return Err(Ended::Frame);
-    }
-    places::read(p.file, p.taken(at, n), &mut bytes[..e])?;
-    S::decode(&bytes[..e], samples);
-    Ok(())
-}
-
-// What came out, written.
-fn store<S: Sample>(
-    rt: HostRuntime,
-    p: Plan<'_>,
-    at: u32,
-    n: u32,
-    out: &[S],
-    bytes: &mut [u8],
-) -> Result<(), Ended> {
-    let e = out.len().saturating_mul(p.each());
-    if bytes.len() < e {
-        return Err(Ended::Full);
-    }
-    S::encode(out, &mut bytes[..e]);
-    let given = p.given(at, n);
-    let put = places::write(p.to, given, &bytes[..e]);
-    places::in_order(rt, put, given, &bytes[..e])
+    S::store(rt, p.to, p.given(at, n), &out[..given], bytes)
 }

@@ -1,12 +1,13 @@
 // The program `repair_sheet`: the sheet of a file with our own offer taken over, or the first display line that has none. `sheet_files` brings the text,
-// `reader` judges it; `repairing` makes the offer for the set's own part of the lists and takes it over, in the sheet's
-// store, `printing` prints the sheet, `refused` says why nothing is repaired. Standard output has the sheet or the answer, standard error the
+// `reader` judges it; `repairing` makes the offer for the set's own part of the lists and takes it over, with the functions of the sheet's
+// store (`stored`), `printing` prints the sheet, `refused` says why nothing is repaired. Standard output has the sheet or the answer, standard error the
 // reason for a person. No contract says what is read or printed, since none could speak of the streams; every function is safe at every argument.
 #![tactic(auto)]
 
 mod printing;
 mod refused;
 mod repairing;
+mod stored;
 
 use reader::Unread;
 use sheet_scan::{Sizes, StoreLines};
@@ -30,7 +31,6 @@ fn judge(rt: HostRuntime, text: &[u8]) {
     let mut starts = [0u32; 8192];
     let mut sizes = [0u32; 8192];
     let mut excesses = [0i64; 8192];
-    let mut offer = [0i32; 131072];
     read(
         rt,
         text,
@@ -38,7 +38,6 @@ fn judge(rt: HostRuntime, text: &[u8]) {
         &mut starts,
         &mut sizes,
         &mut excesses,
-        &mut offer,
     );
 }
 
@@ -50,7 +49,6 @@ fn read(
     starts: &mut [u32],
     sizes: &mut [u32],
     excesses: &mut [i64],
-    offer: &mut [i32],
 ) {
     let answer = reader::read_sheet(text, weights, starts, sizes, excesses);
     let Ok((head, store)) = answer else {
@@ -59,15 +57,22 @@ fn read(
     if store.bits == 16 {
         return judge16(rt, text, starts, sizes, excesses);
     }
+    repair32(rt, head, store.precision, weights, starts, sizes, excesses);
+}
+
+// The list of the offer, and nothing else: one call. A text that is refused needs none.
+fn repair32(
+    rt: HostRuntime,
+    head: Sizes,
+    precision: u32,
+    weights: &mut [i32],
+    starts: &[u32],
+    sizes: &[u32],
+    excesses: &mut [i64],
+) {
+    let mut offer = [0i32; 131072];
     repairing::repair(
-        rt,
-        head,
-        store.precision,
-        weights,
-        starts,
-        sizes,
-        excesses,
-        offer,
+        rt, head, precision, weights, starts, sizes, excesses, &mut offer,
     );
 }
 

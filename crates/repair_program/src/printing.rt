@@ -1,13 +1,13 @@
 // The sheet of the repaired set, printed.
 use crate::refused;
+use crate::stored::Stored;
 use program_streams::out;
 use refusal::Refusal;
 use sheet_files::room;
 use sheet_scan::Sizes;
-use windows::Weight;
 
 // The sheet of the set as it is now stored.
-pub(crate) fn print<W: Weight>(
+pub(crate) fn print<W: Stored>(
     rt: HostRuntime,
     head: Sizes,
     precision: u32,
@@ -17,7 +17,7 @@ pub(crate) fn print<W: Weight>(
     excesses: &[i64],
 ) {
     let mut text = [0u8; 524288];
-    let answer = write_sheets::write(
+    let answer = W::write_sheet(
         head.kind,
         head.lines,
         head.window_size,

@@ -1,11 +1,11 @@
 // One set, repaired: our own offer, and the judge of it.
+use crate::stored::Stored;
 use crate::{printing, refused};
 use refusal::Numbered;
 use sheet_scan::Sizes;
-use windows::Weight;
 
 // The set's own part of the lists that it was read into, repaired; the offer is made in a list that is as long as that of the weights.
-pub(crate) fn repair<W: Weight>(
+pub(crate) fn repair<W: Stored>(
     rt: HostRuntime,
     head: Sizes,
     precision: u32,
@@ -38,7 +38,7 @@ pub(crate) fn repair<W: Weight>(
 }
 
 // The offer.
-fn offered<W: Weight>(
+fn offered<W: Stored>(
     rt: HostRuntime,
     head: Sizes,
     precision: u32,
@@ -48,7 +48,7 @@ fn offered<W: Weight>(
     excesses: &mut [i64],
     offer: &mut [W],
 ) {
-    let answer = make_offers::make_offer(
+    let answer = W::make_offer(
         head.lines,
         head.window_size,
         precision,
@@ -65,7 +65,7 @@ fn offered<W: Weight>(
 }
 
 // The offer judged and taken over.
-fn accepted<W: Weight>(
+fn accepted<W: Stored>(
     rt: HostRuntime,
     head: Sizes,
     precision: u32,
@@ -75,7 +75,7 @@ fn accepted<W: Weight>(
     excesses: &mut [i64],
     offer: &[W],
 ) {
-    let answer = accept_offers::accept_offer(
+    let answer = W::accept_offer(
         head.lines,
         head.window_size,
         precision,

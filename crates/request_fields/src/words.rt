@@ -47,6 +47,15 @@ impl<'a> Words<'a> {
         Ok(word)
     }
 
+    // The next word, where it is a list of such elements.
+    fn list_word<T: Element>(&mut self) -> Result<&'a [u8], Fault> {
+        let word = self.word()?;
+        if !elements::is_list::<T>(word) {
+            return Err(self.not(T::KIND));
+        }
+        Ok(word)
+    }
+
     // What is wrong with the word that was read last.
     pub fn fault(&self, reason: Reason) -> Fault {
         Fault {
@@ -89,10 +98,22 @@ impl<'a> Words<'a> {
     pub fn list<'r, T: Element>(&mut self, room: &'r mut [T]) -> Result<&'r mut [T], Fault>
         ensures { IfOk result (λ list. length list.now ≤ length room.old) }
     {
+        let word = self.list_word::<T>()?;
+        let n = elements::read(word, room);
+        Ok(&mut room[..n])
+    }
+
+    // That the next word is a list of such elements.
+    pub fn seen<T: Element>(&mut self) -> Result<(), Fault> {
+        self.list_word::<T>()?;
+        Ok(())
+    }
+
+    // The next word, which has been `seen` to be a list, in the beginning of the room.
+    pub fn taken<'r, T: Element>(&mut self, room: &'r mut [T]) -> Result<&'r mut [T], Fault>
+        ensures { IfOk result (λ list. length list.now ≤ length room.old) }
+    {
         let word = self.word()?;
-        if !elements::is_list::<T>(word) {
-            return Err(self.not(T::KIND));
-        }
         let n = elements::read(word, room);
         Ok(&mut room[..n])
     }

@@ -5,7 +5,9 @@ use crate::stores::sheet;
 use crate::{Asked, limits};
 use coefficients::NotBuilt;
 use crop_box::CropBox;
+use normalizer::{normalize16, normalize32};
 use plans::{Axis, Request};
+use write_sheets::{write_sheet16, write_sheet32};
 
 // The request: an image one column wide, built down its side.
 fn request(asked: Asked) -> Request {
@@ -90,9 +92,9 @@ fn count_slots(
     };
     if asked.narrow {
         let mut store = [0i16; 65536];
-        sheet(rt, asked, set, &mut store);
+        sheet(rt, asked, set, &mut store, normalize16, write_sheet16);
     } else {
         let mut store = [0i32; 65536];
-        sheet(rt, asked, set, &mut store);
+        sheet(rt, asked, set, &mut store, normalize32, write_sheet32);
     }
 }

@@ -2,15 +2,32 @@
 use crate::making::Set;
 use crate::refused::refused;
 use crate::{Asked, limits};
+use filters::FilterType;
 use program_streams::out;
 use refusal::Refusal;
-use windows::Weight;
 
-// The set in the store, and its sheet.
-pub(crate) fn sheet<W: Weight>(rt: HostRuntime, asked: Asked, set: Set<'_>, store: &mut [W]) {
+// The set in the store, and its sheet, by the normaliser and the writer of the store.
+pub(crate) fn sheet<
+    W,
+    N: FnOnce(u32, u32, &[f64], &[u32], &[u32], &mut [W], &mut [i64]) -> Result<u32, Refusal>,
+    S: FnOnce(
+        FilterType,
+        u32,
+        u32,
+        u32,
+        &[W],
+        &[u32],
+        &[u32],
+        &[i64],
+        &mut [u8],
+    ) -> Result<u64, Refusal>,
+>(rt: HostRuntime, asked: Asked, set: Set<'_>, store: &mut [W], normalize: N, write: S)
+    requires normal { N.IsAlwaysCallable normalize }
+    requires writer { S.IsAlwaysCallable write }
+{
     let mut excesses = [0i64; 8192];
     let mut text = [0u8; 524288];
-    let normalized = normalizer::normalize(
+    let normalized = normalize(
         asked.side,
         set.window,
         set.weights,
@@ -28,7 +45,7 @@ pub(crate) fn sheet<W: Weight>(rt: HostRuntime, asked: Asked, set: Set<'_>, stor
     if store.len() < n || 8192 < m {
         return limits::slots(rt);
     }
-    let written = write_sheets::write(
+    let written = write(
         asked.filter,
         asked.side,
         set.window,

@@ -22,6 +22,18 @@ pub fn side_of(request: Request) -> u32
     }
 }
 
+// The builder's answer: the size of the windows, still without a precision, or why there is no set. It stands apart, so that what becomes of a blank window is judged by
+// itself.
+fn staged(answer: Result<u32, NotBuilt>) -> Result<u32, NotBuilt>
+    ensures answer { result ≡ answer }
+{
+    match answer {
+        Ok(window) => Ok(window),
+        Err(NotBuilt::Blank(line)) => Err(NotBuilt::Blank(line)),
+        Err(NotBuilt::Refused(refusal)) => Err(NotBuilt::Refused(refusal)),
+    }
+}
+
 // The set of a request in the first `room` doubles and the first 8,192 places of the other two lists.
 pub(crate) fn build_in(
     request: Request,
@@ -38,12 +50,13 @@ pub(crate) fn build_in(
     ensures written2 { firsts.new ≡ lent_by 8192 (starts_of request room 8192 8192) firsts.old }
     ensures written3 { counts.new ≡ lent_by 8192 (sizes_of request room 8192 8192) counts.old }
 {
-    build(
+    let built = build(
         request,
         &mut doubles[0..room],
         &mut firsts[0..8192],
         &mut counts[0..8192],
-    )
+    );
+    staged(built)
 }
 
 // The beginnings of three lists as a set in the 32-bit store: n windows of size w.
