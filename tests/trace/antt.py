@@ -68,6 +68,16 @@ def definitions(root, crate, folder="specs"):
             yield Def(crate, file, n, text[p:q], named(text[p:q], table) - {(crate, file, n)}, p, q)
 
 
+def decided(root, laws):
+    """(law, module) for each theorem NAME_decides of a crate's proofs/Sure.antt and each function of the crate that it is stated over: over its contract, as the check reads it."""
+    for law in laws:
+        if law.file == "proofs/Sure.antt" and law.name.endswith("_decides"):
+            text = read(root, "crates", law.crate, law.file)
+            table = {other: module for module, other in re.findall(r"(?m)^use (Rattle\.%s\.proofs\.\S+)\.Reads as (\S+)$" % law.crate, text)}
+            for module in named(law.text, table):
+                yield law, module
+
+
 def laws(root, crate):
     here = os.path.join(root, "crates", crate, "proofs")
     for folder, _, names in sorted(os.walk(here)):

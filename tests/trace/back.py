@@ -27,9 +27,19 @@ class Back:
         self.the_edits()
         house = tree.read(links.root, "docs", "ARCHITECTURE.md")
         self.problems += ["docs/ARCHITECTURE.md does not name the crate " + c for c in self.tree.crates if "`%s`" % c not in house]
+        self.problems += self.out_of_order(house)
         for path in re.findall(r"`((?:crates|include|rust|tests)/[^`\s]+\.\w+)`", house):
             if not os.path.exists(os.path.join(links.root, path)):
                 self.problems.append("docs/ARCHITECTURE.md names the file %s, which is not there" % path)
+
+    def out_of_order(self, house):
+        """Crates that stand in the table of docs/ARCHITECTURE.md, "Who uses whom", before one that they use."""
+        rows = re.findall(r"(?m)^\| [^|]+ \| ([^|]+) \| [^|]+ \|$", house.partition("## Who uses whom")[2].partition("\n## ")[0])
+        order = [c for row in rows for c in re.findall(r"`(\w+)`", row)]
+        for i, crate in enumerate(order):
+            for used in self.tree.uses.get(crate, []):
+                if used not in order[:i]:
+                    yield "docs/ARCHITECTURE.md has %s before %s, which it uses" % (crate, used)
 
     def functions(self):
         c = self.links.contracts
@@ -45,8 +55,8 @@ class Back:
                 self.problems.append("rules.txt has no door for %s: how is it run?" % name)
             if not self.rules_of(f):
                 self.problems.append("no rule reaches the function " + name)
-            if contracts.decides(f) not in self.tree.laws:
-                self.problems.append("no theorem %s for %s" % (contracts.decides(f)[1], name))
+            if not contracts.decides(self.tree, f):
+                self.problems.append("no theorem of crates/%s/proofs/Sure.antt is stated over the contract of %s" % (f.crate, name))
             if name not in c.rows:
                 self.problems.append("docs/CONTRACTS.md has no row for " + name)
         for name in c.rows:

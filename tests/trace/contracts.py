@@ -96,6 +96,7 @@ class Contracts:
         return re.findall(r"\w+", m.group(1)) if m else []
 
 
-def decides(fn):
-    """The theorem that a function's contract decides its answer: mirror_crop -> mirror_crop_decides, Normalizer16::new -> new_decides."""
-    return (fn.crate, fn.name.split("::")[-1] + "_decides")
+def decides(t, fn):
+    """The theorem that a function's contract decides its answer, by what it is stated over: of mirror_crop mirror_crop_decides, of Normalizer16::new new_decides,
+    of Result::number answer_number_decides. None where no theorem of the crate's proofs/Sure.antt speaks of the function."""
+    return t.deciders.get(fn.module)

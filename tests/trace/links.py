@@ -88,8 +88,11 @@ class Links:
     def theorems(self, rule):
         found = []
         for name, _ in rule.fns:
-            if name in self.tree.fns:
-                found.append(contracts.decides(self.tree.fns[name]))
+            law = name in self.tree.fns and contracts.decides(self.tree, self.tree.fns[name])
+            if law:
+                found.append(law)
+            else:
+                self.bad(rule, "no theorem of proofs/Sure.antt is stated over the contract of " + name)
         found = list(dict.fromkeys(found + rule.laws))
         for law in found:
             if law not in self.tree.laws:

@@ -86,9 +86,9 @@ class Page:
         name = f.crate + "::" + f.name
         cited = sorted({d for ds in f.clauses.values() for d in ds})
         edits = self.links.contracts.rows.get(name, [])
-        law = contracts.decides(f)
+        law = contracts.decides(self.tree, f)
         return "| %s | %s | %s | %s | %s |" % (
-            self.function(name), ", ".join(map(self.definition, cited)) or "*own-words*", self.law(law) if law in self.tree.laws else "?",
+            self.function(name), ", ".join(map(self.definition, cited)) or "*own-words*", self.law(law) if law else "?",
             ", ".join(map(self.edit, edits)), ", ".join(self.back.rules_of(f)) + (" (*unrun*)" if self.back.unrun(f) else ""))
 
     def rest(self, defs):

@@ -9,7 +9,7 @@ class Rule:
     def __init__(self, ident, kind, label):
         self.id, self.kind, self.label = ident, kind, label
         self.defs, self.fns, self.laws, self.edits, self.code, self.runs, self.lines, self.pixels = [], [], [], [], [], [], [], []
-        self.only, self.answer, self.no, self.but, self.every = False, None, {}, None, False
+        self.only, self.answer, self.no, self.but, self.every, self.through = False, None, {}, None, False, {}
 
     def add(self, key, rest):
         if key == "def":
@@ -17,8 +17,11 @@ class Rule:
             crate, file = re.match(r"(\w+)/specs/(\w+)\.antt$", path).groups()
             self.defs += [(crate, file, n) for n in names]
         elif key == "fn":
-            name, *clauses = rest.split()
+            told, _, through = rest.partition(" through ")
+            name, *clauses = told.split()
             self.fns.append((name, clauses))
+            if through:
+                self.through[name] = through.split()
         elif key == "law":
             crate, *names = rest.split()
             self.laws += [(crate, n) for n in names]

@@ -3,9 +3,9 @@ import collections
 import os
 import re
 
-from antt import definitions, imports, laws, named, read
+from antt import decided, definitions, imports, laws, named, read
 
-Fn = collections.namedtuple("Fn", "crate file name public clauses asks start stop")
+Fn = collections.namedtuple("Fn", "crate file name public clauses asks start stop module")  # the module in which proofs/ have it
 Edit = collections.namedtuple("Edit", "crate label file place problem places")  # the place of its last change, and of each
 
 
@@ -19,10 +19,11 @@ def functions(root, crate):
     for name in sorted(os.listdir(here)):
         text = read(here, name)
         table = imports(text, crate)
-        owner, place, fn, lent = "", 0, None, None
+        owner, kind, place, fn, lent = "", "", 0, None, None
         for line in text.splitlines(True):
             m = re.match(r"impl(?:<[^{]*?>)? (\w+)(?: for ([A-Z]\w*))?", line)
             owner = (m.group(2) or m.group(1)) + "::" if m else "" if line.startswith("}") else owner
+            kind = (m.group(2) or "") + m.group(1) + "." if m else kind if owner else ""
             # the clause of a trait's function stands at the trait; an impl says by its ghost members which definitions it speaks of
             lent = set() if m and m.group(2) else lent if owner and not m else None
             m = re.match(r"    ghost \w+ = \{(.*)\};", line)
@@ -30,7 +31,7 @@ def functions(root, crate):
                 lent |= named(m.group(1), table)
             m = re.match(r"(\s*)(pub(?:\(crate\))? )?(?:extern \"C\" )?fn (\w+)", line)
             if m:
-                fn = [owner + m.group(3), m.group(2) == "pub " or bool(lent), {"answer": set(lent)} if lent else {}, set(), place, m.group(1)]
+                fn = [owner + m.group(3), m.group(2) == "pub " or bool(lent), {"answer": set(lent)} if lent else {}, set(), place, m.group(1), kind + m.group(3)]
             m = fn and re.match(r"\s*(ensures|requires)\s*(\w*)\s*\{(.*)", line)
             if m and m.group(1) == "ensures":
                 if m.group(2) or not fn[1]:  # a public one without a name is a bound that a caller's safety rests on, and no contract
@@ -39,7 +40,7 @@ def functions(root, crate):
                 fn[3].update(named(m.group(3), table))
             place += len(line)
             if fn and line.startswith(fn[5] + "}"):
-                yield Fn(crate, name, *fn[:5], place)
+                yield Fn(crate, name, *fn[:5], place, ".".join(["Rattle", crate, "proofs"] + [name[:-3]] * (name != "lib.rt") + [fn[6]]))
                 fn = None
 
 
@@ -97,13 +98,15 @@ class Tree:
         every = lambda f: [x for c in self.crates for x in f(root, c)]
         self.defs = {(d.crate, d.file, d.name): d for d in every(definitions)}
         self.uses = {c: d.split() for c, d in re.findall(r"(?m)^(\w+)(?: staticlib)?:(.*)$", read(root, "crates.txt"))}
-        # public only so that a sister crate may call them: inner functions for a reader (docs/CONTRACTS.md, "Workers")
-        lent = re.findall(r"\w+", " ".join(re.findall(r"(?m)^Workers:(.*)$", read(root, "docs", "CONTRACTS.md"))))
+        # public only so that a sister crate may call them: inner functions for a reader (docs/CONTRACTS.md, "Workers"), but for those that have a row there
+        page = read(root, "docs", "CONTRACTS.md")
+        lent, rows = (re.findall(r"\w+", " ".join(re.findall(r"(?m)^%s:(.*)$" % w, page))) for w in ("Workers", "Workers with a row above"))
         self.workers = {f.crate + "::" + f.name for f in every(functions) if f.public and f.name in lent}
-        self.fns = {k: f._replace(public=f.public and k not in self.workers) for f in every(functions) for k in [f.crate + "::" + f.name]}
+        self.fns = {k: f._replace(public=f.public and (k not in self.workers or f.name in rows)) for f in every(functions) for k in [f.crate + "::" + f.name]}
         self.laws = collections.defaultdict(list)
         for law in every(laws):
             self.laws[law.crate, law.name].append(law)
+        self.deciders = {module: (law.crate, law.name) for law, module in decided(root, [l for ls in self.laws.values() for l in ls])}
         self.edits = {e.crate + "/" + e.label: e for c in self.crates for e in edits(root, c, self.defs.values(), self.fns.values())}
 
     def public(self):

@@ -19,10 +19,10 @@ class Ways:
         self.vectors = tree.read(root, "tests/differential/vectors.py")
         self.generated = tree.read(root, "tests/differential/generate.py")
 
-    def of(self, name, seen=()):
-        """(kind, word) for each way in which a function is run; `under` takes those of its callers."""
+    def of(self, name, seen=(), through=None):
+        """(kind, word) for each way in which a function is run; `under` takes those of its callers, `through` those of these callers alone."""
         found = []
-        for kind, *words in self.doors.get(name, []):  # `none` has no words
+        for kind, *words in [["under", *through]] if through else self.doors.get(name, []):  # `none` has no words
             for word in words:
                 found += self.of(word, seen + (name,)) if kind == "under" and word not in seen else [(kind, word)] if kind != "under" else []
         return list(dict.fromkeys(found))
@@ -53,8 +53,9 @@ class Ways:
     def cell(self, rule):
         """The words of the cell, and what of it is not there."""
         wrong, shown = [], []
-        ways = list(dict.fromkeys(w for name, _ in rule.fns for w in self.of(name)))
+        ways = list(dict.fromkeys(w for name, _ in rule.fns for w in self.of(name, through=rule.through.get(name))))
         wrong += [m for m in (self.missing(*w) for w in ways) if m]
+        wrong += ["no run of %s through %s" % (name, c) for name, callers in rule.through.items() for c in callers if not self.of(c)]
         asks = [w for k, w in ways if k == "ask"]
         for request, answer in rule.lines:
             if self.stored.get(request) != answer:

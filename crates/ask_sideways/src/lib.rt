@@ -27,9 +27,14 @@ fn frame(words: &mut Words<'_>) -> Result<PixelFrame, Fault> {
     })
 }
 
-// The pass's number and the output. The frame is read apart: where a function leaves early several times, its lists are made zeros twice.
+// The pass's number and the output. The frame is read before the lists are laid out, which stand in a function of their own: else they are made zeros twice.
 fn sideways(mut words: Words<'_>, out: &mut Output<'_>) -> Result<bool, Fault> {
     let frame = frame(&mut words)?;
+    passed(frame, words, out)
+}
+
+#[inline(never)]
+fn passed(frame: PixelFrame, words: Words<'_>, out: &mut Output<'_>) -> Result<bool, Fault> {
     ask_passes::pass(
         words,
         &mut [0i32; 131072],

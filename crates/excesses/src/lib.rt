@@ -1,6 +1,6 @@
-// `excesses`: by how much each window's weights pass 2^precision, worked out, written and judged. `stored_fits` is the one judge of a stored set, which the passes over
-// integers and the sheet writers ask, as `stored_fits16` and `stored_fits32`: sides, windows, counts, precision, excesses (`unfit`, No. 1 and No. 10). Each is written once,
-// over the weights of any store. The other functions are lent to the normalisers, the writers and the readers.
+// `excesses`: by how much each window's weights pass 2^precision, worked out, written and judged. `stored_fits` is the one judge of a stored set, over the weights of any
+// store: sides, windows, counts, precision, excesses (`unfit`, No. 1 and No. 10). The sheet writers and the offers ask it, the passes over integers and the story as
+// `stored_fits16` or `stored_fits32`. The other functions are lent to the normalisers, the writers and the readers.
 #![tactic(auto)]
 
 mod judge;
@@ -13,6 +13,11 @@ ghost use Rattle.windows.specs.Fit.{unfit};
 
 pub use judge::stored_fits;
 pub use sums::{add, excess_of, power, write_excesses};
+
+// A list of one weight, which is 0, of each store: for whoever has a list of the other store alone to lend.
+pub const NO_SHORT: [i16; 1] = [0];
+
+pub const NO_LONG: [i32; 1] = [0];
 
 // Whether a set with weights of 16 bits fits, for any numbers and lists.
 pub fn stored_fits16(

@@ -19,20 +19,19 @@ fn misfits(limit: u32, w: i64, v: i64) -> bool
     ((d < -1) | (1 < d)) | !inside
 }
 
-// Whether one of n offered weights from slot a on may not stand for the stored one.
+// Whether one of n offered weights from slot a on may not stand for the stored one. Every weight is looked at, so that the compiler puts several side by side.
 fn some_misfit<W: Weight>(limit: u32, weights: &[W], offered: &[W], a: usize, n: usize) -> bool
     requires limit_bound { limit ≤ 31 }
     requires n_in_bounds { (a + n ≤ length weights.now) × (a + n ≤ length offered.now) }
     ensures answer { result ≡ any n (bad_weight limit (slot_from (W.values weights.now) a) (slot_from (W.values offered.now) a)) }
 {
+    let mut bad = false;
     for k in 0..n {
         let w = weights[a + k].number();
         let v = offered[a + k].number();
-        if misfits(limit, w, v) {
-            return true;
-        }
+        bad = bad | misfits(limit, w, v);
     }
-    false
+    bad
 }
 
 // Whether they do not repair the window: one of them may not stand, or they have an excess.

@@ -36,7 +36,8 @@ fn judge(rt: HostRuntime, text: &[u8]) {
     );
 }
 
-// The sheet, read and told.
+// The sheet, read and told. Written into `judge` (`inline`), so that the list of weights, at which nothing looks, need not be filled.
+#[inline(always)]
 fn read(
     rt: HostRuntime,
     text: &[u8],

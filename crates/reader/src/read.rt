@@ -9,7 +9,8 @@ use sheet_lists::{fill_layout, fill_slots};
 use sheet_scan::{Sizes, StoreLines, limit_of};
 use windows::Weight;
 
-// The set of a sheet of a store that is taken, whose weights the lent list holds, or nothing.
+// The set of a sheet of a store that is taken, whose weights the lent list holds, or nothing. Written into what calls it, as `fill_slots` is, and for its reason.
+#[inline(always)]
 fn read<W: Weight>(
     wide: bool,
     text: &[u8],
@@ -47,6 +48,7 @@ fn read<W: Weight>(
 }
 
 // The set of a sheet of either store, into the lent lists, or nothing, for any text and lists.
+#[inline(always)]
 pub fn read_sheet(
     text: &[u8],
     weights: &mut [i32],

@@ -60,7 +60,8 @@ fn read(
     repair32(rt, head, store.precision, weights, starts, sizes, excesses);
 }
 
-// The list of the offer, and nothing else: one call. A text that is refused needs none.
+// The list of the offer, and nothing else: one call. A text that is refused needs none, so it stays out of the frame of `read`.
+#[inline(never)]
 fn repair32(
     rt: HostRuntime,
     head: Sizes,
@@ -76,7 +77,8 @@ fn repair32(
     );
 }
 
-// The lists of `read16`, of the weights' own size.
+// The lists of `read16`, of the weights' own size; they stay out of the frame of `read` too.
+#[inline(never)]
 fn judge16(
     rt: HostRuntime,
     text: &[u8],

@@ -9,7 +9,10 @@ ghost use Rattle.sheet_scan.specs.Whole.{There, Whatever, slot_of, no_weight};
 use excess_scan::{opened, weight};
 use windows::Weight;
 
+// All of this is written into what calls it (`inline`), as far as the reader: a caller that looks at no weight, as `read_back`, then has no list of them to fill.
+
 // Every slot 0.
+#[inline(always)]
 fn zero<W: Weight>(out: &mut [W])
     ensures written { W.values out.new ≡ tab 0 (length out.old) no_weight }
 {
@@ -19,6 +22,7 @@ fn zero<W: Weight>(out: &mut [W])
 }
 
 // The weights of a window of `size` lines into the first slots; the place after them.
+#[inline(always)]
 fn put_weights<W: Weight>(limit: u64, size: u32, text: &[u8], at: usize, out: &mut [W]) -> usize
     requires le_limit { (1 ≤ limit) × (limit ≤ 2 ^ W.STORE.limit) × (at ≤ length text.now) × (size ≤ length out.old) }
     requires there { There (run (weight_item limit size) 0 size) text.now at }
@@ -35,6 +39,7 @@ fn put_weights<W: Weight>(limit: u64, size: u32, text: &[u8], at: usize, out: &m
 }
 
 // The slots of one window: its weights and then zeros; the place after its line.
+#[inline(always)]
 fn fill_row<W: Weight>(limit: u64, size: u32, text: &[u8], at: usize, out: &mut [W]) -> usize
     requires le_limit { (1 ≤ limit) × (limit ≤ 2 ^ W.STORE.limit) × (at ≤ length text.now) × (size ≤ length out.old) }
     requires there { There (run (weight_item limit size) 0 size) text.now at }
@@ -46,6 +51,7 @@ fn fill_row<W: Weight>(limit: u64, size: u32, text: &[u8], at: usize, out: &mut 
 }
 
 // The slots of `outs` windows, from the lines at a place of the text.
+#[inline(always)]
 pub fn fill_slots<W: Weight>(
     lines: u32,
     outs: u32,
